@@ -1,0 +1,4 @@
+pub mod Tests
+pub mod Sets
+pub mod Closure
+pub mod Example

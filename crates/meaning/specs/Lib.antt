@@ -1,0 +1,11 @@
+-- Document 01 in its own order, but for what is about a file's bytes.
+pub mod Limits
+pub mod Sets
+pub mod Relations
+pub mod Graphs
+pub mod Documents
+pub mod Queries
+pub mod Operations
+pub mod Announcements
+pub mod Translation
+pub mod Refused
