@@ -48,11 +48,11 @@ record Row : Type 0 where
 
 computed : XPath → Row
 computed q = let os = translated graph q in record {
-    query = q;
-    selects = selected document q;
-    answers = answer document os;
-    kinds-announced = listed 17 (λ B. at (announced graph os) (last os) 16 B)
-  }
+  query = q;
+  selects = selected document q;
+  answers = answer document os;
+  kinds-announced = listed 17 (λ B. at (announced graph os) (last os) 16 B);
+}
 
 row : XPath → List ℕ → List ℕ → Row
 row q nodes ks = record { query = q; selects = nodes; answers = nodes; kinds-announced = ks }

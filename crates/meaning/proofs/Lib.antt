@@ -1,4 +1,10 @@
 pub mod Tests
 pub mod Sets
 pub mod Closure
+pub mod Results
+pub mod Views
+pub mod KindSets
+pub mod NodeKinds
+pub mod Runs
+pub mod Right
 pub mod Example

@@ -11,7 +11,7 @@ use Rattle.meaning.specs.Sets.{any, listed, bit, mask}
 use Rattle.meaning.proofs.Tests.{never, same, or-left, or-right, or-out}
 
 -- what holds of n and of each number below n holds of each below suc n
-below-suc : {n : ℕ} (P : ℕ → Type 0) (u : ℕ) → P n → (u < n → P u) → u < suc n → P u
+pub below-suc : {n : ℕ} (P : ℕ → Type 0) (u : ℕ) → P n → (u < n → P u) → u < suc n → P u
 below-suc {n} P u at-n less l = ⊎-elim (λ e. rw (equal e) at-n) (λ m. less (le-of-suc-le-suc m)) (eq-or-lt-of-le l)
   where
     equal : suc u ≡ suc n → u ≡ n

@@ -1,0 +1,76 @@
+-- Kinds: what a legal graph's kinds are, which masks hold what, and the kinds of nodes.
+use Prim.Native.Nat.{ℕ, zero, suc, _<_, _≤_}
+use mathlib.Core.Path.{_≡_, refl, sym, ap, _∙_, subst}
+use mathlib.Core.Bool.{Bool, true, false, _&&_, _||_, cond}
+use native.Mathlib.Omega.{arith}
+use lib.Dec.{eqb}
+use lib.ListN.{getD}
+use borrow.Author.Tests.{eqb-true, eq-eqb}
+use Rattle.meaning.specs.declared.Graph.{Graph}
+use Rattle.meaning.specs.Limits.{types, document, kinds}
+use Rattle.meaning.specs.Sets.{any, bit, mask}
+use Rattle.meaning.specs.Relations.{Relation, OneOrMore, one, more}
+use Rattle.meaning.specs.Graphs.{LegalGraph, childKind, reachable, live}
+use Rattle.meaning.specs.Documents.{View, isElement, isParent}
+use Rattle.meaning.specs.Translation.{image, only, together, orReachable}
+use Rattle.meaning.proofs.Tests.{never, and-in, and-left, and-right, or-left, or-right, or-out}
+use Rattle.meaning.proofs.Sets.{any-in, any-out, bit-mask, mask-below}
+use Rattle.meaning.proofs.Closure.{On, closure-sound, closure-complete, steps-map}
+use Rattle.meaning.proofs.Views.{Keeps, parent-element, parent-is, element-there}
+
+module _ (C D : ℕ) where
+  pub together-bit : (K : ℕ) → K < kinds → bit (together C D) K ≡ bit C K || bit D K
+  unfolding together
+  together-bit K l = bit-mask kinds (λ A. bit C A || bit D A) K l
+
+pub only-bit : (t C K : ℕ) → K < kinds → bit (only t C) K ≡ eqb K t && bit C K
+unfolding only
+only-bit t C K l = bit-mask kinds (λ A. eqb A t && bit C A) K l
+
+module _ (r : Relation) (C : ℕ) where
+  pub image-in : (A B : ℕ) → A < kinds → B < kinds → bit C A ≡ true → r A B ≡ true → bit (image r C) B ≡ true
+  unfolding image
+  image-in A B a b c h = bit-mask kinds _ B b ∙ any-in kinds (λ A. bit C A && r A B) A a (and-in c h)
+
+  pub image-out : {P : Type 0} (B : ℕ) → ((A : ℕ) → A < kinds → bit C A ≡ true → r A B ≡ true → P) → bit (image r C) B ≡ true → P
+  unfolding image
+  image-out B k h =
+      any-out kinds (λ A. bit C A && r A B)
+      (λ A a e. k A a (and-left (bit C A) (r A B) e) (and-right (bit C A) (r A B) e))
+      (sym (bit-mask kinds (λ B. any kinds (λ A. bit C A && r A B)) B (mask-below kinds _ B h)) ∙ h)
+
+module _ (g : Graph) (legal : LegalGraph g) where
+  pub root-kind-small : g .root < kinds
+  root-kind-small = omega (arith, legal .root-type, legal .most-types)
+
+  -- an edge leads from a kind to a type
+  pub edge-types : (A B : ℕ) → childKind g A B ≡ true → (A < kinds) × (B < g .k)
+  unfolding childKind
+  edge-types A B h = go (eqb A document) refl h
+    where
+      go : (t : Bool) → eqb A document ≡ t → cond t (eqb B (g .root)) (bit (getD (g .children) A 0) B) ≡ true → (A < kinds) × (B < g .k)
+      go true e h = (omega (arith, eqb-true A document e), omega (arith, legal .root-type, eqb-true B (g .root) h))
+      go false e h = (omega (arith, legal .edges A B h .0, legal .most-types), legal .edges A B h .1)
+
+  pub edges-on : On kinds (childKind g)
+  edges-on A B h = let e : (A < kinds) × (B < g .k) = edge-types A B h in (e .0, omega (arith, legal .most-types))
+
+  pub reachable-in : {A B : ℕ} → OneOrMore (childKind g) A B → reachable g A B ≡ true
+  unfolding reachable
+  reachable-in s = closure-complete kinds (childKind g) edges-on s
+
+  pub reachable-out : {A B : ℕ} → reachable g A B ≡ true → OneOrMore (childKind g) A B
+  unfolding reachable
+  reachable-out h = closure-sound kinds (childKind g) h
+
+  -- a child kind of a live kind is live
+  pub live-child : (A B : ℕ) → live g A ≡ true → childKind g A B ≡ true → live g B ≡ true
+  unfolding live childKind
+  live-child A B l h =
+      or-right (eqb B document) _
+      (or-out (eqb A document) _
+      (λ e. or-left _ _ (subst (λ (t : Bool). cond t (eqb B (g .root)) (bit (getD (g .children) A 0) B) ≡ true) e h))
+      (λ m. or-right (eqb B (g .root)) _ (reachable-in
+      (or-out (eqb A (g .root)) (reachable g (g .root) A)
+      (λ e. one (rw (eqb-true A (g .root) e) at h)) (λ q. more (reachable-out q) h) m)))
+      l)

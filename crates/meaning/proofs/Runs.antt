@@ -1,0 +1,102 @@
+-- Programs that grow: what steps add, and what their results are in a run.
+use Prim.Native.Nat.{ℕ, zero, suc, _+_, _-_, _<_, _≤_}
+use mathlib.Core.Path.{_≡_, refl, sym, ap, _∙_}
+use mathlib.Core.Bool.{Bool, true, false, not, _&&_, _||_}
+use mathlib.Core.List.{List, [], _∷_, _++_, append-assoc}
+use native.Mathlib.Omega.{arith}
+use lib.Dec.{eqb}
+use lib.ListN.{length, length-append}
+use borrow.Author.Tests.{eqb-true}
+use Rattle.meaning.specs.declared.Graph.{Graph}
+use Rattle.meaning.specs.declared.Operation.{Operation}
+use Rattle.meaning.specs.declared.Operation.the-variants.{Table, Itself, Text, Join, Union, Closure, Has, Diff, Both}
+use Rattle.meaning.specs.Sets.{any, bit}
+use Rattle.meaning.specs.Relations.{Relation, nothing, join, unite, has, difference, intersection, closure, at}
+use Rattle.meaning.specs.Documents.{View, isElement, isParent, textTest}
+use Rattle.meaning.specs.Operations.{last, rows, results, run}
+use Rattle.meaning.specs.Translation.{Adds, step, then, thenBoth}
+use Rattle.meaning.proofs.Tests.{never, and-left, and-right, or-out}
+use Rattle.meaning.proofs.Sets.{any-out}
+use Rattle.meaning.proofs.Closure.{closure-ends}
+use Rattle.meaning.proofs.Results.{results-append, results-length, results-keep, results-last, results-agree}
+use Rattle.meaning.proofs.Views.{Keeps, element-there, parent-element, parent-is}
+
+-- ps is os with one or more steps added
+pub record Longer (os ps : List Operation) : Type 0 where
+  pub added : List Operation
+  pub whole : ps ≡ os ++ added
+  pub some-added : 1 ≤ length added
+
+pub longer-step : (o : Operation) (os : List Operation) → Longer os (step o os)
+unfolding step
+longer-step o os = record { added = o ∷ []; whole = refl; some-added = omega arith }
+
+pub longer-trans : {os ps qs : List Operation} → Longer os ps → Longer ps qs → Longer os qs
+longer-trans {os} {ps} {qs} a b = record {
+  added = a .added ++ b .added;
+  whole = b .whole ∙ ap (λ l. l ++ b .added) (a .whole) ∙ append-assoc os (a .added) (b .added);
+  some-added = omega (arith, length-append (a .added) (b .added), a .some-added);
+}
+
+pub longer-length : {os ps : List Operation} → Longer os ps → length os < length ps
+longer-length {os} {ps} a = omega (arith, ap length (a .whole), length-append os (a .added), a .some-added)
+
+-- the last step of what has grown is there, and is none of the old ones
+pub last-new : {os ps : List Operation} → Longer os ps → (length os ≤ last ps) × (last ps < length ps)
+unfolding last
+last-new a = (omega (arith, longer-length a), omega (arith, longer-length a))
+
+-- v and w are nodes wherever r has a row (v, w)
+abbrev pub OnNodes : View → Relation → Type 0
+OnNodes d r = (v w : ℕ) → r v w ≡ true → (d .there v ≡ true) × (d .there w ≡ true)
+
+module _ (d : View) where
+  pub run-length : (os : List Operation) → length (run d os) ≡ length os
+  unfolding run
+  run-length os = results-length (rows d) [] os ∙ omega arith
+
+  -- a step's result stays when the program grows
+  pub run-keep : {os ps : List Operation} → Longer os ps → (s : ℕ) → s < length os → at (run d ps) s ≡ at (run d os) s
+  unfolding run
+  run-keep {os} {ps} a s l =
+      ap (λ l. at (run d l) s) (a .whole)
+      ∙ ap (λ l. at l s) (results-append (rows d) [] os (a .added))
+      ∙ results-keep (rows d) (run d os) (a .added) s (omega (arith, run-length os))
+
+  abbrev pub lastResult : List Operation → Relation
+  lastResult os = at (run d os) (last os)
+
+  pub step-result : (o : Operation) (os : List Operation) → lastResult (step o os) ≡ rows d (run d os) o
+  unfolding run step last
+  step-result o os =
+      ap (λ l. at l (length (os ++ (o ∷ [])) - 1)) (results-append (rows d) [] os (o ∷ []))
+      ∙ results-last (rows d) (run d os) o _ (run-length os ∙ omega (arith, length-append os (o ∷ [])))
+
+  module _ (g : Graph) (keeps : Keeps g d) where
+    rows-nodes : (rs ps : List Relation) (o : Operation) → ((s : ℕ) → OnNodes d (at rs s)) → OnNodes d (rows d rs o)
+    unfolding rows join unite has difference intersection textTest
+    rows-nodes rs ps (Table m) on v w h =
+        let p : isParent d v w ≡ true = and-left (isParent d v w) _ h in
+        let e : isElement d w ≡ true = parent-element d v w p in
+        (rw (parent-is d v w p) at (keeps .parent-there w e), element-there d w e)
+    rows-nodes rs ps Itself on v w h =
+        let t : d .there v ≡ true = and-left (d .there v) (eqb v w) h in
+        (t, rw (eqb-true v w (and-right (d .there v) (eqb v w) h)) at t)
+    rows-nodes rs ps (Text c) on v w h =
+        let t : d .there v ≡ true = element-there d v (and-left (isElement d v) _ (and-left (textTest d c v) (eqb v w) h)) in
+        (t, rw (eqb-true v w (and-right (textTest d c v) (eqb v w) h)) at t)
+    rows-nodes rs ps (Join a b) on v w h =
+        any-out (d .size) (λ u. at rs a v u && at rs b u w)
+        (λ u l e. (on a v u (and-left (at rs a v u) (at rs b u w) e) .0, on b u w (and-right (at rs a v u) (at rs b u w) e) .1)) h
+    rows-nodes rs ps (Union a b) on v w h = or-out (at rs a v w) (at rs b v w) (on a v w) (on b v w) h
+    rows-nodes rs ps (Closure a) on v w h = closure-ends (λ v. d .there v ≡ true) (d .size) (at rs a) (on a) v w h
+    rows-nodes rs ps (Has a) on v w h =
+        let t : d .there v ≡ true = any-out (d .size) (λ u. at rs a v u) (λ u l e. on a v u e .0) (and-right (eqb v w) _ h) in
+        (t, rw (eqb-true v w (and-left (eqb v w) _ h)) at t)
+    rows-nodes rs ps (Diff a b) on v w h = on a v w (and-left (at rs a v w) _ h)
+    rows-nodes rs ps (Both a b) on v w h = on a v w (and-left (at rs a v w) (at rs b v w) h)
+
+    -- every row of every step of every program joins two nodes
+    pub run-nodes : (os : List Operation) (s : ℕ) → OnNodes d (at (run d os) s)
+    unfolding run
+    run-nodes os s = results-agree (λ r p. OnNodes d r) (λ v w h. never h) (rows d) (rows d) rows-nodes os s
