@@ -115,11 +115,3 @@ closure-complete n r on {v} {w} = enough n r v on n (counted-most n (found n r v
 pub steps-map : (r s : Relation) (f : ℕ → ℕ) → ((u w : ℕ) → r u w ≡ true → s (f u) (f w) ≡ true) → {v w : ℕ} → OneOrMore r v w → OneOrMore s (f v) (f w)
 steps-map r s f k {v} {w} (one h) = one (k v w h)
 steps-map r s f k {v} {w} (more {u} m h) = more (steps-map r s f k m) (k u w h)
-
--- what holds of both ends of each row holds of both ends of a closure's
-pub closure-ends : (P : ℕ → Type 0) (n : ℕ) (r : Relation) → ((v w : ℕ) → r v w ≡ true → P v × P w) → (v w : ℕ) → closure n r v w ≡ true → P v × P w
-closure-ends P n r on v w h = ends (closure-sound n r h)
-  where
-    ends : {x : ℕ} → OneOrMore r v x → P v × P x
-    ends (one {w = x} e) = on v x e
-    ends (more {u} {w = x} p e) = (ends p .0, on u x e .1)

@@ -27,6 +27,10 @@ pub only-bit : (t C K : ℕ) → K < kinds → bit (only t C) K ≡ eqb K t && b
 unfolding only
 only-bit t C K l = bit-mask kinds (λ A. eqb A t && bit C A) K l
 
+pub only-out : (t C K : ℕ) → bit (only t C) K ≡ true → bit C K ≡ true
+unfolding only
+only-out t C K h = and-right (eqb K t) (bit C K) (sym (only-bit t C K (mask-below kinds _ K h)) ∙ h)
+
 module _ (r : Relation) (C : ℕ) where
   pub image-in : (A B : ℕ) → A < kinds → B < kinds → bit C A ≡ true → r A B ≡ true → bit (image r C) B ≡ true
   unfolding image
@@ -62,6 +66,17 @@ module _ (g : Graph) (legal : LegalGraph g) where
   pub reachable-out : {A B : ℕ} → reachable g A B ≡ true → OneOrMore (childKind g) A B
   unfolding reachable
   reachable-out h = closure-sound kinds (childKind g) h
+
+  -- one edge, or more, lead from any kinds to types only
+  pub child-types : (C B : ℕ) → bit (image (childKind g) C) B ≡ true → B < g .k
+  child-types C B = image-out (childKind g) C B (λ A a c h. edge-types A B h .1)
+
+  pub reachable-types : (C B : ℕ) → bit (image (reachable g) C) B ≡ true → B < g .k
+  reachable-types C B = image-out (reachable g) C B (λ A a c h. end-type (reachable-out h))
+    where
+      end-type : {A B : ℕ} → OneOrMore (childKind g) A B → B < g .k
+      end-type {A} {B} (one h) = edge-types A B h .1
+      end-type {B} (more {u} s h) = edge-types u B h .1
 
   -- a child kind of a live kind is live
   pub live-child : (A B : ℕ) → live g A ≡ true → childKind g A B ≡ true → live g B ≡ true

@@ -1,10 +1,13 @@
 pub mod Tests
 pub mod Sets
 pub mod Closure
+pub mod Ends
 pub mod Results
 pub mod Views
 pub mod KindSets
 pub mod NodeKinds
 pub mod Runs
+pub mod Counts
 pub mod Right
+pub mod Sound
 pub mod Example

@@ -17,7 +17,7 @@ use Rattle.meaning.specs.Translation.{image, only, together, orReachable
 use Rattle.meaning.proofs.Tests.{and-in, and-left, and-right, or-left, or-right, or-out}
 use Rattle.meaning.proofs.Sets.{any-in, any-out}
 use Rattle.meaning.proofs.Closure.{steps-map}
-use Rattle.meaning.proofs.Views.{Keeps, parent-element, parent-is, element-there, below-steps}
+use Rattle.meaning.proofs.Views.{Keeps, parent-element, parent-is, element-there, below-there, below-steps}
 use Rattle.meaning.proofs.KindSets.{together-bit, only-bit, image-in, edge-types, reachable-in, live-child}
 
 -- a node is the document node or an element
@@ -61,9 +61,9 @@ module _ (g : Graph) (legal : LegalGraph g) (d : View) (keeps : Keeps g d) where
       image-in (childKind g) C (d .kind v) (d .kind w) (kind-small v t)
       (kind-small w (element-there d w (parent-element d v w h))) c (edge-below v w h)
 
-  pub below-kinds : (C v w : ℕ) → d .there v ≡ true → d .there w ≡ true → bit C (d .kind v) ≡ true → below d v w ≡ true → bit (image (reachable g) C) (d .kind w) ≡ true
-  below-kinds C v w t u c h =
-      image-in (reachable g) C (d .kind v) (d .kind w) (kind-small v t) (kind-small w u) c
+  pub below-kinds : (C v w : ℕ) → d .there v ≡ true → bit C (d .kind v) ≡ true → below d v w ≡ true → bit (image (reachable g) C) (d .kind w) ≡ true
+  below-kinds C v w t c h =
+      image-in (reachable g) C (d .kind v) (d .kind w) (kind-small v t) (kind-small w (below-there d v w h)) c
       (reachable-in g legal (steps-map (isParent d) (childKind g) (d .kind) edge-below (below-steps g d keeps h)))
 
   pub deep-kinds : (C v w : ℕ) → d .there v ≡ true → d .there w ≡ true → bit C (d .kind v) ≡ true → orBelow d v w ≡ true → bit (orReachable g C) (d .kind w) ≡ true
@@ -72,7 +72,7 @@ module _ (g : Graph) (legal : LegalGraph g) (d : View) (keeps : Keeps g d) where
       together-bit C (image (reachable g) C) (d .kind w) (kind-small w u)
       ∙ or-out (eqb v w) (below d v w)
       (λ e. or-left (bit C (d .kind w)) _ (rw (← eqb-true v w e) c))
-      (λ b. or-right (bit C (d .kind w)) _ (below-kinds C v w t u c b)) h
+      (λ b. or-right (bit C (d .kind w)) _ (below-kinds C v w t c b)) h
 
   -- from a node of the kinds C, a path reaches nodes of its kinds out under C
   pub out-kinds : (p : XPath) (C v w : ℕ) → d .there v ≡ true → d .there w ≡ true → bit C (d .kind v) ≡ true → reaches p d v w ≡ true → bit (out g C p) (d .kind w) ≡ true

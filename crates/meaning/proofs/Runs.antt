@@ -1,25 +1,22 @@
 -- Programs that grow: what steps add, and what their results are in a run.
 use Prim.Native.Nat.{ℕ, zero, suc, _+_, _-_, _<_, _≤_}
 use mathlib.Core.Path.{_≡_, refl, sym, ap, _∙_}
-use mathlib.Core.Bool.{Bool, true, false, not, _&&_, _||_}
+use mathlib.Core.Bool.{Bool, true, _&&_}
 use mathlib.Core.List.{List, [], _∷_, _++_, append-assoc}
 use native.Mathlib.Omega.{arith}
-use lib.Dec.{eqb}
 use lib.ListN.{length, length-append}
-use borrow.Author.Tests.{eqb-true}
 use Rattle.meaning.specs.declared.Graph.{Graph}
 use Rattle.meaning.specs.declared.Operation.{Operation}
 use Rattle.meaning.specs.declared.Operation.the-variants.{Table, Itself, Text, Join, Union, Closure, Has, Diff, Both}
-use Rattle.meaning.specs.Sets.{any, bit}
-use Rattle.meaning.specs.Relations.{Relation, nothing, join, unite, has, difference, intersection, closure, at}
+use Rattle.meaning.specs.Sets.{bit}
+use Rattle.meaning.specs.Relations.{Relation, at}
 use Rattle.meaning.specs.Documents.{View, isElement, isParent, textTest}
 use Rattle.meaning.specs.Operations.{last, rows, results, run}
 use Rattle.meaning.specs.Translation.{Adds, step, then, thenBoth}
-use Rattle.meaning.proofs.Tests.{never, and-left, and-right, or-out}
-use Rattle.meaning.proofs.Sets.{any-out}
-use Rattle.meaning.proofs.Closure.{closure-ends}
+use Rattle.meaning.proofs.Tests.{never, and-left}
+use Rattle.meaning.proofs.Ends.{Ends, diagonal-ends, join-ends, unite-ends, has-ends, difference-ends, intersection-ends, closure-ends}
 use Rattle.meaning.proofs.Results.{results-append, results-length, results-keep, results-last, results-agree}
-use Rattle.meaning.proofs.Views.{Keeps, element-there, parent-element, parent-is}
+use Rattle.meaning.proofs.Views.{Keeps, element-there, parent-element, parent-is, test-element}
 
 -- ps is os with one or more steps added
 pub record Longer (os ps : List Operation) : Type 0 where
@@ -46,9 +43,9 @@ pub last-new : {os ps : List Operation} → Longer os ps → (length os ≤ last
 unfolding last
 last-new a = (omega (arith, longer-length a), omega (arith, longer-length a))
 
--- v and w are nodes wherever r has a row (v, w)
+-- the rows of r join nodes
 abbrev pub OnNodes : View → Relation → Type 0
-OnNodes d r = (v w : ℕ) → r v w ≡ true → (d .there v ≡ true) × (d .there w ≡ true)
+OnNodes d r = Ends (λ v. d .there v ≡ true) r
 
 module _ (d : View) where
   pub run-length : (os : List Operation) → length (run d os) ≡ length os
@@ -73,30 +70,25 @@ module _ (d : View) where
       ∙ results-last (rows d) (run d os) o _ (run-length os ∙ omega (arith, length-append os (o ∷ [])))
 
   module _ (g : Graph) (keeps : Keeps g d) where
-    rows-nodes : (rs ps : List Relation) (o : Operation) → ((s : ℕ) → OnNodes d (at rs s)) → OnNodes d (rows d rs o)
-    unfolding rows join unite has difference intersection textTest
-    rows-nodes rs ps (Table m) on v w h =
-        let p : isParent d v w ≡ true = and-left (isParent d v w) _ h in
+    table-nodes : (f : ℕ → Bool) → OnNodes d (λ v w. isParent d v w && f w)
+    table-nodes f v w h =
+        let p : isParent d v w ≡ true = and-left (isParent d v w) (f w) h in
         let e : isElement d w ≡ true = parent-element d v w p in
         (rw (parent-is d v w p) at (keeps .parent-there w e), element-there d w e)
-    rows-nodes rs ps Itself on v w h =
-        let t : d .there v ≡ true = and-left (d .there v) (eqb v w) h in
-        (t, rw (eqb-true v w (and-right (d .there v) (eqb v w) h)) at t)
-    rows-nodes rs ps (Text c) on v w h =
-        let t : d .there v ≡ true = element-there d v (and-left (isElement d v) _ (and-left (textTest d c v) (eqb v w) h)) in
-        (t, rw (eqb-true v w (and-right (textTest d c v) (eqb v w) h)) at t)
-    rows-nodes rs ps (Join a b) on v w h =
-        any-out (d .size) (λ u. at rs a v u && at rs b u w)
-        (λ u l e. (on a v u (and-left (at rs a v u) (at rs b u w) e) .0, on b u w (and-right (at rs a v u) (at rs b u w) e) .1)) h
-    rows-nodes rs ps (Union a b) on v w h = or-out (at rs a v w) (at rs b v w) (on a v w) (on b v w) h
-    rows-nodes rs ps (Closure a) on v w h = closure-ends (λ v. d .there v ≡ true) (d .size) (at rs a) (on a) v w h
-    rows-nodes rs ps (Has a) on v w h =
-        let t : d .there v ≡ true = any-out (d .size) (λ u. at rs a v u) (λ u l e. on a v u e .0) (and-right (eqb v w) _ h) in
-        (t, rw (eqb-true v w (and-left (eqb v w) _ h)) at t)
-    rows-nodes rs ps (Diff a b) on v w h = on a v w (and-left (at rs a v w) _ h)
-    rows-nodes rs ps (Both a b) on v w h = on a v w (and-left (at rs a v w) (at rs b v w) h)
+
+    pub rows-nodes : (rs : List Relation) (o : Operation) → ((s : ℕ) → OnNodes d (at rs s)) → OnNodes d (rows d rs o)
+    unfolding rows
+    rows-nodes rs (Table m) on = table-nodes (λ w. bit m (d .kind w))
+    rows-nodes rs Itself on = diagonal-ends _ (d .there) (λ v t. t)
+    rows-nodes rs (Text c) on = diagonal-ends _ (textTest d c) (λ v h. element-there d v (test-element d c v h))
+    rows-nodes rs (Join a b) on = join-ends _ (d .size) (at rs a) (at rs b) (on a) (on b)
+    rows-nodes rs (Union a b) on = unite-ends _ (at rs a) (at rs b) (on a) (on b)
+    rows-nodes rs (Closure a) on = closure-ends _ (d .size) (at rs a) (on a)
+    rows-nodes rs (Has a) on = has-ends _ (d .size) (at rs a) (on a)
+    rows-nodes rs (Diff a b) on = difference-ends _ (at rs a) (at rs b) (on a)
+    rows-nodes rs (Both a b) on = intersection-ends _ (at rs a) (at rs b) (on a)
 
     -- every row of every step of every program joins two nodes
     pub run-nodes : (os : List Operation) (s : ℕ) → OnNodes d (at (run d os) s)
     unfolding run
-    run-nodes os s = results-agree (λ r p. OnNodes d r) (λ v w h. never h) (rows d) (rows d) rows-nodes os s
+    run-nodes os s = results-agree (λ r p. OnNodes d r) (λ v w h. never h) (rows d) (rows d) (λ rs ps o on. rows-nodes rs o on) os s

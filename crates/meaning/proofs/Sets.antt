@@ -7,8 +7,9 @@ use native.Mathlib.Nat.{eq-or-lt-of-le, le-of-suc-le-suc, not-suc-le-zero}
 use native.Mathlib.Omega.{arith}
 use lib.Dec.{eqb}
 use borrow.Author.Tests.{eq-eqb, ne-eqb}
+use mathlib.Core.List.{[]}
 use Rattle.meaning.specs.Sets.{any, listed, bit, mask}
-use Rattle.meaning.proofs.Tests.{never, same, or-left, or-right, or-out}
+use Rattle.meaning.proofs.Tests.{never, fails, or-left, or-right, or-out}
 
 -- what holds of n and of each number below n holds of each below suc n
 pub below-suc : {n : ℕ} (P : ℕ → Type 0) (u : ℕ) → P n → (u < n → P u) → u < suc n → P u
@@ -37,6 +38,11 @@ pub listed-cong : (n : ℕ) (f g : ℕ → Bool) → ((u : ℕ) → u < n → f 
 unfolding listed
 listed-cong zero f g h = refl
 listed-cong (suc n) f g h = rw (h n (omega arith), listed-cong n f g (λ u l. h u (omega arith)))
+
+pub listed-none : (n : ℕ) (f : ℕ → Bool) → ((u : ℕ) → f u ≡ true → ⊥) → listed n f ≡ []
+unfolding listed
+listed-none zero f h = refl
+listed-none (suc n) f h = rw (fails (f n) (h n), listed-none n f h)
 
 half : (b : Bool) (m : ℕ) → (m * 2 + cond b 1 0) / 2 ≡ m
 half true m = omega arith

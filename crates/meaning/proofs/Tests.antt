@@ -8,6 +8,10 @@ use native.Mathlib.Omega.{arith}
 pub never : {P : Type 0} → false ≡ true → P
 never h = let z : _≡_ {A = ℕ} 0 1 = cc in absurd (omega arith)
 
+pub fails : (a : Bool) → (a ≡ true → ⊥) → a ≡ false
+fails true h = absurd (h refl)
+fails false h = refl
+
 -- two tests that pass together are equal
 pub same : (a b : Bool) → (a ≡ true → b ≡ true) → (b ≡ true → a ≡ true) → a ≡ b
 same true b f g = sym (f refl)
@@ -49,5 +53,4 @@ and-implied true b h = h refl
 and-implied false b h = refl
 
 pub not-in : (a : Bool) → (a ≡ true → ⊥) → not a ≡ true
-not-in true h = absurd (h refl)
-not-in false h = refl
+not-in a h = rw (fails a h)

@@ -14,7 +14,7 @@ use Rattle.meaning.specs.declared.Element.{Element}
 use Rattle.meaning.specs.Limits.{document}
 use Rattle.meaning.specs.Relations.{Relation, OneOrMore, one, more}
 use Rattle.meaning.specs.Graphs.{childKind}
-use Rattle.meaning.specs.Documents.{View, isElement, isParent, above, below, view, node, parentRule, edgeRule, Accepted}
+use Rattle.meaning.specs.Documents.{View, isElement, isParent, above, below, textTest, view, node, parentRule, edgeRule, Accepted}
 use Rattle.meaning.proofs.Tests.{never, and-in, and-left, and-right, and-where, or-left, or-right, or-out}
 
 -- All that the theorems ask of a view.
@@ -45,6 +45,19 @@ parent-is d v w h = eqb-true (d .parent w) v (and-right (isElement d w) (eqb (d 
 pub is-parent : (d : View) (w : ℕ) → isElement d w ≡ true → isParent d (d .parent w) w ≡ true
 unfolding isParent
 is-parent d w h = and-in h (eq-eqb (d .parent w) (d .parent w) refl)
+
+pub test-element : (d : View) (c v : ℕ) → textTest d c v ≡ true → isElement d v ≡ true
+unfolding textTest
+test-element d c v h = and-left (isElement d v) (eqb (d .text v) c) h
+
+above-there : (d : View) (k v w : ℕ) → above k d v w ≡ true → d .there w ≡ true
+unfolding above
+above-there d zero v w h = never h
+above-there d (suc k) v w h = element-there d w (and-left (isElement d w) _ h)
+
+pub below-there : (d : View) (v w : ℕ) → below d v w ≡ true → d .there w ≡ true
+unfolding below
+below-there d v w h = above-there d (d .size) v w h
 
 -- the parent rule, at element 1 and at the others
 pub rule-first : (d : View) → parentRule d 1 ≡ true → d .parent 1 ≡ 0

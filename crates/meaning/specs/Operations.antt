@@ -36,8 +36,8 @@ pub record LegalProgram (limit k : ℕ) (os : List Operation) : Type 0 where
 -- the rows of an operation, from the results so far
 unfoldable pub rows : View → List Relation → Operation → Relation
 rows d rs (Table m) v w = isParent d v w && bit m (d .kind w)
-rows d rs Itself v w = d .there v && eqb v w
-rows d rs (Text c) v w = textTest d c v && eqb v w
+rows d rs Itself v w = eqb v w && d .there v
+rows d rs (Text c) v w = eqb v w && textTest d c v
 rows d rs (Join a b) v w = join (d .size) (at rs a) (at rs b) v w
 rows d rs (Union a b) v w = unite (at rs a) (at rs b) v w
 rows d rs (Closure a) v w = closure (d .size) (at rs a) v w
