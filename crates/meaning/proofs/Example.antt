@@ -1,16 +1,15 @@
 -- Document 01's example: one document, fourteen queries, computed from the definitions.
-use Prim.Native.Nat.{ℕ}
+use Prim.Native.Nat.{ℕ, zero, suc}
 use mathlib.Core.Path.{_≡_, refl}
 use mathlib.Core.List.{List, [], _∷_, map}
 use Rattle.meaning.specs.declared.Graph.{Graph}
 use Rattle.meaning.specs.declared.Element.{Element}
-use Rattle.meaning.specs.declared.Operation.{Operation}
-use Rattle.meaning.specs.declared.Operation.the-variants.{Table, Itself, Text, Join, Union, Closure, Has, Diff, Both}
+use Rattle.meaning.specs.declared.Operation.the-variants.{Table, Itself, Join, Union, Closure}
 use Rattle.meaning.specs.Sets.{any, listed, bit, mask}
 use Rattle.meaning.specs.Relations.{join, unite, has, difference, intersection, within, closure, at}
 use Rattle.meaning.specs.Graphs.{childKind, reachable, live}
 use Rattle.meaning.specs.Documents.{View, some, isElement, isParent, above, below, textTest, node, view}
-use Rattle.meaning.specs.Queries.{XPath, self, child, anyChild, slash, slashes, union, filter, reached, textIs, isNot, both, either, orBelow, reaches, holds, selected, pathCount}
+use Rattle.meaning.specs.Queries.{XPath, self, child, anyChild, slash, slashes, union, filter, reached, textIs, isNot, both, either, orBelow, reaches, holds, selected, pathCount, queryNodes}
 use Rattle.meaning.specs.Operations.{last, rows, results, run, answer}
 use Rattle.meaning.specs.Announcements.{pairs, announced}
 use Rattle.meaning.specs.Translation.{image, only, together, orReachable, out, step, then, thenBoth, descend, path, translated, stepCount}
@@ -80,3 +79,34 @@ table =
 fourteen : map (λ r. computed (r .query)) table ≡ table
 unfolding graph element document computed row table any listed bit mask join unite has difference intersection within closure childKind reachable live some isElement isParent above below textTest node view orBelow reaches holds selected last rows results run answer pairs announced image only together orReachable out step then thenBoth descend path translated
 fourteen = refl
+
+-- C5 takes eight steps.
+eight-steps : translated graph (slashes self station)
+    ≡ Itself ∷ Table 0x000F ∷ Closure 1 ∷ Itself ∷ Union 2 3 ∷ Join 0 4 ∷ Table 0x0004 ∷ Join 5 6 ∷ []
+unfolding graph any bit mask within closure childKind reachable last image only together orReachable out step then thenBoth descend path translated
+eight-steps = refl
+
+-- n + 1 child tests in a chain
+chain : (XPath → XPath → XPath) → ℕ → XPath
+chain f zero = station
+chain f (suc n) = f (chain f n) station
+
+-- At the edges: three // take 22 steps, four 29; 24 nodes with one not take 25.
+three-slashes : stepCount (chain slashes 3) ≡ 22
+unfolding stepCount pathCount chain
+three-slashes = refl
+
+four-slashes : stepCount (chain slashes 4) ≡ 29
+unfolding stepCount pathCount chain
+four-slashes = refl
+
+one-not : XPath
+one-not = filter (chain slash 10) (isNot (textIs 7))
+
+one-not-nodes : queryNodes one-not ≡ 24
+unfolding queryNodes pathCount chain one-not
+one-not-nodes = refl
+
+one-not-steps : stepCount one-not ≡ 25
+unfolding stepCount pathCount chain one-not
+one-not-steps = refl

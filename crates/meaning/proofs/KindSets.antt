@@ -1,22 +1,21 @@
 -- Kinds: what a legal graph's kinds are, which masks hold what, and the kinds of nodes.
-use Prim.Native.Nat.{ℕ, zero, suc, _<_, _≤_}
-use mathlib.Core.Path.{_≡_, refl, sym, ap, _∙_, subst}
+use Prim.Native.Nat.{ℕ, _<_}
+use mathlib.Core.Path.{_≡_, refl, sym, _∙_, subst}
 use mathlib.Core.Bool.{Bool, true, false, _&&_, _||_, cond}
 use native.Mathlib.Omega.{arith}
 use lib.Dec.{eqb}
 use lib.ListN.{getD}
-use borrow.Author.Tests.{eqb-true, eq-eqb}
+use borrow.Author.Tests.{eqb-true}
 use Rattle.meaning.specs.declared.Graph.{Graph}
-use Rattle.meaning.specs.Limits.{types, document, kinds}
-use Rattle.meaning.specs.Sets.{any, bit, mask}
+use Rattle.meaning.specs.Limits.{document, kinds}
+use Rattle.meaning.specs.Sets.{any, bit}
 use Rattle.meaning.specs.Relations.{Relation, OneOrMore, one, more}
 use Rattle.meaning.specs.Graphs.{LegalGraph, childKind, reachable, live}
-use Rattle.meaning.specs.Documents.{View, isElement, isParent}
-use Rattle.meaning.specs.Translation.{image, only, together, orReachable}
-use Rattle.meaning.proofs.Tests.{never, and-in, and-left, and-right, or-left, or-right, or-out}
+use Rattle.meaning.specs.Translation.{image, only, together}
+use Rattle.meaning.proofs.Tests.{and-in, and-left, and-right, or-left, or-right, or-out}
 use Rattle.meaning.proofs.Sets.{any-in, any-out, bit-mask, mask-below}
-use Rattle.meaning.proofs.Closure.{On, closure-sound, closure-complete, steps-map}
-use Rattle.meaning.proofs.Views.{Keeps, parent-element, parent-is, element-there}
+use Rattle.meaning.proofs.Ends.{closure-ends}
+use Rattle.meaning.proofs.Closure.{On, closure-sound, closure-complete}
 
 module _ (C D : ℕ) where
   pub together-bit : (K : ℕ) → K < kinds → bit (together C D) K ≡ bit C K || bit D K
@@ -44,7 +43,7 @@ module _ (r : Relation) (C : ℕ) where
       (sym (bit-mask kinds (λ B. any kinds (λ A. bit C A && r A B)) B (mask-below kinds _ B h)) ∙ h)
 
 module _ (g : Graph) (legal : LegalGraph g) where
-  pub root-kind-small : g .root < kinds
+  root-kind-small : g .root < kinds
   root-kind-small = omega (arith, legal .root-type, legal .most-types)
 
   -- an edge leads from a kind to a type
@@ -89,3 +88,10 @@ module _ (g : Graph) (legal : LegalGraph g) where
       (or-out (eqb A (g .root)) (reachable g (g .root) A)
       (λ e. one (rw (eqb-true A (g .root) e) at h)) (λ q. more (reachable-out q) h) m)))
       l)
+
+  pub live-small : (A : ℕ) → live g A ≡ true → A < kinds
+  unfolding live reachable
+  live-small A h =
+      or-out (eqb A document) _ (λ e. omega (arith, eqb-true A document e))
+      (or-out (eqb A (g .root)) _ (λ e. omega (arith, eqb-true A (g .root) e, root-kind-small))
+      (λ e. closure-ends (λ B. B < kinds) kinds (childKind g) edges-on (g .root) A e .1)) h

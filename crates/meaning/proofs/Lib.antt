@@ -1,3 +1,4 @@
+pub mod Example
 pub mod Tests
 pub mod Sets
 pub mod Closure
@@ -10,4 +11,4 @@ pub mod Runs
 pub mod Counts
 pub mod Right
 pub mod Sound
-pub mod Example
+pub mod Theorems

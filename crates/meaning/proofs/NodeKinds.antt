@@ -1,19 +1,18 @@
 -- The kinds of a document's nodes: they are live, and those that a path reaches are among its kinds out.
-use Prim.Native.Nat.{ℕ, zero, suc, _<_, _≤_}
-use mathlib.Core.Path.{_≡_, refl, sym, ap, _∙_}
-use mathlib.Core.Bool.{Bool, true, _&&_, _||_}
+use Prim.Native.Nat.{ℕ, zero, suc, _<_}
+use mathlib.Core.Path.{_≡_, _∙_}
+use mathlib.Core.Bool.{Bool, true, _&&_}
 use native.Mathlib.Nat.{not-suc-le-zero}
 use native.Mathlib.Omega.{arith}
-use lib.Dec.{eqb, ltb}
+use lib.Dec.{eqb}
 use borrow.Author.Tests.{eqb-true, eq-eqb, lt-ltb}
 use Rattle.meaning.specs.declared.Graph.{Graph}
 use Rattle.meaning.specs.Limits.{document, kinds}
-use Rattle.meaning.specs.Sets.{any, bit}
-use Rattle.meaning.specs.Relations.{Relation, OneOrMore, one, more}
+use Rattle.meaning.specs.Sets.{bit}
 use Rattle.meaning.specs.Graphs.{LegalGraph, childKind, reachable, live}
 use Rattle.meaning.specs.Documents.{View, some, isElement, isParent, below}
 use Rattle.meaning.specs.Queries.{XPath, self, child, anyChild, slash, slashes, union, filter, orBelow, reaches, holds}
-use Rattle.meaning.specs.Translation.{image, only, together, orReachable, out}
+use Rattle.meaning.specs.Translation.{image, orReachable, out}
 use Rattle.meaning.proofs.Tests.{and-in, and-left, and-right, or-left, or-right, or-out}
 use Rattle.meaning.proofs.Sets.{any-in, any-out}
 use Rattle.meaning.proofs.Closure.{steps-map}

@@ -1,9 +1,9 @@
 -- Laws of the results of a program, the same for rows and for announced pairs.
-use Prim.Native.Nat.{ℕ, zero, suc, _+_, _-_, _<_, _≤_}
-use mathlib.Core.Path.{_≡_, refl, sym, ap, _∙_, subst}
-use mathlib.Core.List.{List, [], _∷_, _++_, append-assoc}
+use Prim.Native.Nat.{ℕ, zero, suc, _+_, _<_}
+use mathlib.Core.Path.{_≡_, refl, _∙_}
+use mathlib.Core.List.{List, [], _∷_, _++_}
 use native.Mathlib.Omega.{arith}
-use lib.ListN.{getD, length, length-append, List·getD-append}
+use lib.ListN.{length, length-append, List·getD-append}
 use lib.Seq.{getD-at}
 use Rattle.meaning.specs.declared.Operation.{Operation}
 use Rattle.meaning.specs.Relations.{Relation, nothing, at}

@@ -1,31 +1,29 @@
 -- Translation is right: the last step of a translated path relates each node of the context kinds to what the path reaches from it.
-use Prim.Native.Nat.{ℕ, zero, suc, _<_, _≤_}
+use Prim.Native.Nat.{ℕ}
 use mathlib.Core.Path.{_≡_, refl, sym, ap, _∙_}
 use mathlib.Core.Bool.{Bool, true, false, not, _&&_, _||_}
-use mathlib.Core.List.{List, [], _∷_}
-use native.Mathlib.Omega.{arith}
+use mathlib.Core.List.{List, []}
 use lib.Dec.{eqb}
-use lib.ListN.{length}
 use borrow.Author.Tests.{eqb-true, eq-eqb}
 use Rattle.meaning.specs.declared.Graph.{Graph}
 use Rattle.meaning.specs.declared.Operation.{Operation}
 use Rattle.meaning.specs.declared.Operation.the-variants.{Table, Itself, Text, Join, Union, Closure, Has, Diff, Both}
 use Rattle.meaning.specs.Limits.{document, kinds}
-use Rattle.meaning.specs.Sets.{any, listed, bit, mask}
+use Rattle.meaning.specs.Sets.{any, bit, mask}
 use Rattle.meaning.specs.Relations.{Relation, OneOrMore, one, more, join, unite, has, difference, intersection, closure, at}
 use Rattle.meaning.specs.Graphs.{LegalGraph, childKind, reachable}
-use Rattle.meaning.specs.Documents.{View, some, isElement, isParent, below, textTest}
+use Rattle.meaning.specs.Documents.{View, some, isParent, below}
 use Rattle.meaning.specs.Queries.{XPath, Qualifier, self, child, anyChild, slash, slashes, union, filter, reached, textIs, isNot, both, either, orBelow, reaches, holds, selected}
 use Rattle.meaning.specs.Operations.{last, rows, run, answer}
 use Rattle.meaning.specs.Translation.{Adds, step, then, thenBoth, image, only, orReachable, out, descend, path, qualifier, translated}
-use Rattle.meaning.proofs.Tests.{never, same, and-in, and-left, and-right, and-where, and-cong, and-implied, or-left, or-right, or-out}
-use Rattle.meaning.proofs.Sets.{any-in, any-out, any-cong, listed-cong, bit-mask}
+use Rattle.meaning.proofs.Tests.{same, and-in, and-left, and-right, and-where, and-cong, and-implied}
+use Rattle.meaning.proofs.Sets.{any-in, any-out, listed-cong}
 use Rattle.meaning.proofs.Closure.{closure-sound, closure-complete, steps-map}
 use Rattle.meaning.proofs.Views.{Keeps, parent-element, element-there, below-steps, steps-below}
-use Rattle.meaning.proofs.KindSets.{only-bit, image-in}
+use Rattle.meaning.proofs.KindSets.{only-bit}
 use Rattle.meaning.proofs.NodeKinds.{some-in, some-out, kind-small, child-kinds, below-kinds, deep-kinds, out-kinds}
 use Rattle.meaning.proofs.Runs.{Longer, longer-step, last-new, OnNodes, run-keep, lastResult, step-result, run-nodes}
-use Rattle.meaning.proofs.Counts.{path-longer, qualifier-longer, both-longer, then-longer}
+use Rattle.meaning.proofs.Counts.{both-longer, then-longer}
 
 -- r and s have the same rows to nodes, from wherever S holds
 abbrev Same : View → (ℕ → Type 0) → Relation → Relation → Type 0

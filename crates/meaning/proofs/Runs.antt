@@ -1,6 +1,6 @@
 -- Programs that grow: what steps add, and what their results are in a run.
-use Prim.Native.Nat.{ℕ, zero, suc, _+_, _-_, _<_, _≤_}
-use mathlib.Core.Path.{_≡_, refl, sym, ap, _∙_}
+use Prim.Native.Nat.{ℕ, _-_, _<_, _≤_}
+use mathlib.Core.Path.{_≡_, refl, ap, _∙_}
 use mathlib.Core.Bool.{Bool, true, _&&_}
 use mathlib.Core.List.{List, [], _∷_, _++_, append-assoc}
 use native.Mathlib.Omega.{arith}
@@ -11,8 +11,8 @@ use Rattle.meaning.specs.declared.Operation.the-variants.{Table, Itself,
 use Rattle.meaning.specs.Sets.{bit}
 use Rattle.meaning.specs.Relations.{Relation, at}
 use Rattle.meaning.specs.Documents.{View, isElement, isParent, textTest}
-use Rattle.meaning.specs.Operations.{last, rows, results, run}
-use Rattle.meaning.specs.Translation.{Adds, step, then, thenBoth}
+use Rattle.meaning.specs.Operations.{last, rows, run}
+use Rattle.meaning.specs.Translation.{step}
 use Rattle.meaning.proofs.Tests.{never, and-left}
 use Rattle.meaning.proofs.Ends.{Ends, diagonal-ends, join-ends, unite-ends, has-ends, difference-ends, intersection-ends, closure-ends}
 use Rattle.meaning.proofs.Results.{results-append, results-length, results-keep, results-last, results-agree}

@@ -1,63 +1,67 @@
 -- Announcements are sound: every row of every step of every program joins a pair announced for that step.
-use Prim.Native.Nat.{ℕ, _<_, _-_}
-use mathlib.Core.Path.{_≡_, refl, sym, ap, _∙_}
-use mathlib.Core.Bool.{Bool, true, false, not, _&&_, _||_}
+use Prim.Native.Nat.{ℕ}
+use mathlib.Core.Path.{_≡_, sym, ap, _∙_}
+use mathlib.Core.Bool.{Bool, true, false, not, _&&_}
 use mathlib.Core.List.{List, []}
 use native.Mathlib.Omega.{arith}
 use lib.Dec.{eqb}
-use borrow.Author.Tests.{eqb-true, eq-eqb, ne-eqb}
+use borrow.Author.Tests.{eqb-true, eq-eqb}
 use Rattle.meaning.specs.declared.Graph.{Graph}
 use Rattle.meaning.specs.declared.Operation.{Operation}
 use Rattle.meaning.specs.declared.Operation.the-variants.{Table, Itself, Text, Join, Union, Closure, Has, Diff, Both}
 use Rattle.meaning.specs.Limits.{document, kinds}
-use Rattle.meaning.specs.Sets.{any, listed, bit}
-use Rattle.meaning.specs.Relations.{Relation, nothing, join, unite, has, difference, intersection, closure, at}
-use Rattle.meaning.specs.Graphs.{LegalGraph, childKind, reachable, live}
+use Rattle.meaning.specs.Sets.{any, bit}
+use Rattle.meaning.specs.Relations.{Relation, join, unite, has, difference, intersection, closure, at}
+use Rattle.meaning.specs.Graphs.{LegalGraph, childKind, live}
 use Rattle.meaning.specs.Documents.{View, isElement, isParent, textTest}
-use Rattle.meaning.specs.Operations.{last, rows, results, run, answer}
+use Rattle.meaning.specs.Operations.{last, rows, run, answer}
 use Rattle.meaning.specs.Announcements.{pairs, announced}
 use Rattle.meaning.proofs.Tests.{never, and-in, and-left, and-right, or-left, or-right, or-out, not-in}
 use Rattle.meaning.proofs.Sets.{any-in, any-out, listed-none}
-use Rattle.meaning.proofs.Closure.{On, closure-sound, closure-complete, steps-map}
+use Rattle.meaning.proofs.Closure.{closure-sound, closure-complete, steps-map}
 use Rattle.meaning.proofs.Ends.{Ends, diagonal-ends, join-ends, unite-ends, has-ends, intersection-ends, closure-ends}
 use Rattle.meaning.proofs.Results.{results-agree}
-use Rattle.meaning.proofs.Views.{Keeps, element-there, element-positive, parent-element, parent-is, test-element}
-use Rattle.meaning.proofs.KindSets.{edge-types, edges-on, root-kind-small}
+use Rattle.meaning.proofs.Views.{Keeps, element-there, parent-element, parent-is, test-element}
+use Rattle.meaning.proofs.KindSets.{edge-types, live-child, live-small}
 use Rattle.meaning.proofs.NodeKinds.{edge-below, kind-small, kinds-live}
 use Rattle.meaning.proofs.Runs.{OnNodes, rows-nodes}
 
 module _ (g : Graph) (legal : LegalGraph g) where
-  live-small : (A : ℕ) → live g A ≡ true → A < kinds
-  unfolding live reachable
-  live-small A h =
-      or-out (eqb A document) _ (λ e. omega (arith, eqb-true A document e))
-      (or-out (eqb A (g .root)) _ (λ e. omega (arith, eqb-true A (g .root) e, root-kind-small g legal))
-      (λ e. closure-ends (λ B. B < kinds) kinds (childKind g) (edges-on g legal) (g .root) A e .1)) h
+  -- both kinds of every row are live
+  abbrev OnLive : Relation → Type 0
+  OnLive p = Ends (λ A. live g A ≡ true) p
 
-  table-kinds : (f : ℕ → Bool) → On kinds (λ A B. live g A && (childKind g A B && f B))
-  table-kinds f A B h = edges-on g legal A B (and-left (childKind g A B) (f B) (and-right (live g A) _ h))
+  table-live : (f : ℕ → Bool) → OnLive (λ A B. live g A && (childKind g A B && f B))
+  table-live f A B h =
+      let l : live g A ≡ true = and-left (live g A) _ h in
+      (l, live-child g legal A B l (and-left (childKind g A B) (f B) (and-right (live g A) _ h)))
 
-  pairs-kinds : (ps : List Relation) (o : Operation) → ((s : ℕ) → On kinds (at ps s)) → On kinds (pairs g ps o)
+  pairs-live : (ps : List Relation) (o : Operation) → ((s : ℕ) → OnLive (at ps s)) → OnLive (pairs g ps o)
   unfolding pairs
-  pairs-kinds ps (Table m) on = table-kinds (bit m)
-  pairs-kinds ps Itself on = diagonal-ends _ (live g) live-small
-  pairs-kinds ps (Text c) on = diagonal-ends _ (λ A. live g A && not (eqb A document)) (λ A h. live-small A (and-left (live g A) _ h))
-  pairs-kinds ps (Join a b) on = join-ends _ kinds (at ps a) (at ps b) (on a) (on b)
-  pairs-kinds ps (Union a b) on = unite-ends _ (at ps a) (at ps b) (on a) (on b)
-  pairs-kinds ps (Closure a) on = closure-ends _ kinds (at ps a) (on a)
-  pairs-kinds ps (Has a) on = has-ends _ kinds (at ps a) (on a)
-  pairs-kinds ps (Diff a b) on = on a
-  pairs-kinds ps (Both a b) on = intersection-ends _ (at ps a) (at ps b) (on a)
+  pairs-live ps (Table m) on = table-live (bit m)
+  pairs-live ps Itself on = diagonal-ends _ (live g) (λ A l. l)
+  pairs-live ps (Text c) on = diagonal-ends _ (λ A. live g A && not (eqb A document)) (λ A h. and-left (live g A) _ h)
+  pairs-live ps (Join a b) on = join-ends _ kinds (at ps a) (at ps b) (on a) (on b)
+  pairs-live ps (Union a b) on = unite-ends _ (at ps a) (at ps b) (on a) (on b)
+  pairs-live ps (Closure a) on = closure-ends _ kinds (at ps a) (on a)
+  pairs-live ps (Has a) on = has-ends _ kinds (at ps a) (on a)
+  pairs-live ps (Diff a b) on = on a
+  pairs-live ps (Both a b) on = intersection-ends _ (at ps a) (at ps b) (on a)
+
+  -- every pair announced for every step of every program joins live kinds
+  pub announced-live : (os : List Operation) (s : ℕ) → OnLive (at (announced g os) s)
+  unfolding announced
+  announced-live os s = results-agree (λ p q. OnLive p) (λ A B h. never h) (pairs g) (pairs g) (λ ps qs o on. pairs-live ps o on) os s
 
   module _ (d : View) (keeps : Keeps g d) where
     -- each row of r joins a pair of p
     abbrev Covers : Relation → Relation → Type 0
     Covers r p = (v w : ℕ) → r v w ≡ true → p (d .kind v) (d .kind w) ≡ true
 
-    -- what is kept at each step: rows join nodes, pairs join kinds, and the pairs cover the rows
+    -- what is kept at each step: rows join nodes, pairs join live kinds, and the pairs cover the rows
     record Announces (r p : Relation) : Type 0 where
       nodes : OnNodes d r
-      small : On kinds p
+      live : OnLive p
       covers : Covers r p
 
     covers-table : (m : ℕ) → Covers (λ v w. isParent d v w && bit m (d .kind w)) (λ A B. live g A && (childKind g A B && bit m B))
@@ -91,8 +95,8 @@ module _ (g : Graph) (legal : LegalGraph g) where
         any-out (d .size) (λ u. r v u)
         (λ u l e. any-in kinds (λ K. p (d .kind v) K) (d .kind u) (kind-small g legal d keeps u (nodes v u e .1)) (a v u e)) h
 
-    covers-closure : (r p : Relation) → On kinds p → Covers r p → Covers (closure (d .size) r) (closure kinds p)
-    covers-closure r p on a v w h = closure-complete kinds p on (steps-map r p (d .kind) a (closure-sound (d .size) r h))
+    covers-closure : (r p : Relation) → OnLive p → Covers r p → Covers (closure (d .size) r) (closure kinds p)
+    covers-closure r p on a v w h = closure-complete kinds p (λ A B e. (live-small g legal A (on A B e .0), live-small g legal B (on A B e .1))) (steps-map r p (d .kind) a (closure-sound (d .size) r h))
 
     covers-unite : (r s p q : Relation) → Covers r p → Covers s q → Covers (unite r s) (unite p q)
     unfolding unite
@@ -114,7 +118,7 @@ module _ (g : Graph) (legal : LegalGraph g) where
     covers-step rs ps (Text c) a = covers-diagonal (textTest d c) (λ A. live g A && not (eqb A document)) (text-kinds c)
     covers-step rs ps (Join x y) a = covers-join (at rs x) (at rs y) (at ps x) (at ps y) (a x .nodes) (a x .covers) (a y .covers)
     covers-step rs ps (Union x y) a = covers-unite (at rs x) (at rs y) (at ps x) (at ps y) (a x .covers) (a y .covers)
-    covers-step rs ps (Closure x) a = covers-closure (at rs x) (at ps x) (a x .small) (a x .covers)
+    covers-step rs ps (Closure x) a = covers-closure (at rs x) (at ps x) (a x .live) (a x .covers)
     covers-step rs ps (Has x) a = covers-has (at rs x) (at ps x) (a x .nodes) (a x .covers)
     covers-step rs ps (Diff x y) a = covers-difference (at rs x) (at rs y) (at ps x) (a x .covers)
     covers-step rs ps (Both x y) a = covers-intersection (at rs x) (at rs y) (at ps x) (at ps y) (a x .covers) (a y .covers)
@@ -122,10 +126,10 @@ module _ (g : Graph) (legal : LegalGraph g) where
     steps-announced : (os : List Operation) (s : ℕ) → Announces (at (run d os) s) (at (announced g os) s)
     unfolding run announced
     steps-announced os s =
-        results-agree Announces (record { nodes = λ v w h. never h; small = λ v w h. never h; covers = λ v w h. never h }) (rows d) (pairs g)
+        results-agree Announces (record { nodes = λ v w h. never h; live = λ v w h. never h; covers = λ v w h. never h }) (rows d) (pairs g)
         (λ rs ps o a. record {
           nodes = rows-nodes d g keeps rs o (λ s. a s .nodes);
-          small = pairs-kinds ps o (λ s. a s .small);
+          live = pairs-live ps o (λ s. a s .live);
           covers = covers-step rs ps o a;
         }) os s
 

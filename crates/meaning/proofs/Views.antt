@@ -1,18 +1,17 @@
 -- What the view of an accepted document keeps to, and what follows for parents and for nodes below.
 use Prim.Native.Nat.{ℕ, zero, suc, _-_, _<_, _≤_}
 use mathlib.Core.Path.{_≡_, refl, sym, ap, _∙_}
-use mathlib.Core.Bool.{Bool, true, false, _&&_, _||_, cond}
+use mathlib.Core.Bool.{true, false, _&&_, _||_}
 use mathlib.Core.List.{List}
-use mathlib.Core.Logic.{⊎-elim}
 use native.Mathlib.Nat.{not-suc-le-zero}
 use native.Mathlib.Omega.{arith}
-use lib.Dec.{eqb, ltb, leb}
+use lib.Dec.{eqb, ltb}
 use lib.ListN.{length}
-use borrow.Author.Tests.{ltb-true, lt-ltb, leb-true, le-leb, eqb-true, eq-eqb, ne-eqb}
+use borrow.Author.Tests.{ltb-true, leb-true, le-leb, eqb-true, eq-eqb, ne-eqb}
 use Rattle.meaning.specs.declared.Graph.{Graph}
 use Rattle.meaning.specs.declared.Element.{Element}
 use Rattle.meaning.specs.Limits.{document}
-use Rattle.meaning.specs.Relations.{Relation, OneOrMore, one, more}
+use Rattle.meaning.specs.Relations.{OneOrMore, one, more}
 use Rattle.meaning.specs.Graphs.{childKind}
 use Rattle.meaning.specs.Documents.{View, isElement, isParent, above, below, textTest, view, node, parentRule, edgeRule, Accepted}
 use Rattle.meaning.proofs.Tests.{never, and-in, and-left, and-right, and-where, or-left, or-right, or-out}

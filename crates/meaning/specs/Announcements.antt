@@ -1,6 +1,5 @@
 -- The pairs of kinds that each step is announced to join, from the graph alone.
-use Prim.Native.Nat.{ℕ}
-use mathlib.Core.Bool.{Bool, not, _&&_}
+use mathlib.Core.Bool.{not, _&&_}
 use mathlib.Core.List.{List, []}
 use lib.Dec.{eqb}
 use Rattle.meaning.specs.declared.Graph.{Graph}

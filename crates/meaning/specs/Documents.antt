@@ -29,6 +29,7 @@ some d f = any (d .size) (λ u. d .there u && f u)
 unfoldable pub isElement : View → ℕ → Bool
 isElement d w = d .there w && ltb 0 w
 
+-- w is an element, and v its parent
 unfoldable pub isParent : View → Relation
 isParent d v w = isElement d w && eqb (d .parent w) v
 

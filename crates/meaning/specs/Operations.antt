@@ -1,7 +1,7 @@
 -- Programs: the rows of the nine operations, a run, and the answer.
-use Prim.Native.Nat.{ℕ, zero, suc, _-_, _<_, _≤_}
+use Prim.Native.Nat.{ℕ, _-_, _<_, _≤_}
 use mathlib.Core.Path.{_≡_}
-use mathlib.Core.Bool.{Bool, true, _&&_}
+use mathlib.Core.Bool.{true, _&&_}
 use mathlib.Core.List.{List, [], _∷_, _++_}
 use lib.Dec.{eqb}
 use lib.ListN.{getD, length}
@@ -9,7 +9,7 @@ use Rattle.meaning.specs.declared.Operation.{Operation}
 use Rattle.meaning.specs.declared.Operation.the-variants.{Table, Itself, Text, Join, Union, Closure, Has, Diff, Both}
 use Rattle.meaning.specs.Limits.{words}
 use Rattle.meaning.specs.Sets.{listed, bit}
-use Rattle.meaning.specs.Relations.{Relation, nothing, join, unite, has, difference, intersection, closure, at}
+use Rattle.meaning.specs.Relations.{Relation, join, unite, has, difference, intersection, closure, at}
 use Rattle.meaning.specs.Documents.{View, isParent, textTest}
 
 -- A program is the list of its operations; a step is counted from 0, and the last one is:

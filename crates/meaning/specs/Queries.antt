@@ -9,6 +9,7 @@ use Rattle.meaning.specs.Relations.{Relation}
 use Rattle.meaning.specs.Documents.{View, some, isParent, below, textTest}
 
 mutual
+  -- 01 self; 02 t; 03 any child; 04 p/p; 05 p//p; 06 union; 07 p[q]
   pub data XPath : Type 0 where
     self : XPath
     child : ℕ → XPath
@@ -18,6 +19,7 @@ mutual
     union : XPath → XPath → XPath
     filter : XPath → Qualifier → XPath
 
+  -- 11 some node is reached; 12 own text number equals; 13 not; 14 and; 15 or
   pub data Qualifier : Type 0 where
     reached : XPath → Qualifier
     textIs : ℕ → Qualifier

@@ -1,0 +1,80 @@
+-- The theorems about the definitions: each can be read by itself, with specs/ beside it.
+use Prim.Native.Nat.{ℕ, _+_, _*_, _≤_}
+use mathlib.Core.Path.{_≡_}
+use mathlib.Core.Bool.{true, false}
+use mathlib.Core.List.{List, []}
+use mathlib.Core.Logic.{_↔_}
+use borrow.Author.Tests.{le-leb}
+use lib.ListN.{length}
+use Rattle.meaning.specs.declared.Graph.{Graph}
+use Rattle.meaning.specs.declared.Element.{Element}
+use Rattle.meaning.specs.declared.Operation.{Operation}
+use Rattle.meaning.specs.Limits.{document}
+use Rattle.meaning.specs.Sets.{bit}
+use Rattle.meaning.specs.Relations.{Relation, OneOrMore, closure, at}
+use Rattle.meaning.specs.Graphs.{LegalGraph, live}
+use Rattle.meaning.specs.Documents.{isParent, below, view, node, Accepted}
+use Rattle.meaning.specs.Queries.{XPath, LegalPath, queryNodes, reaches, selected}
+use Rattle.meaning.specs.Operations.{LegalProgram, last, run, answer}
+use Rattle.meaning.specs.Announcements.{announced}
+use Rattle.meaning.specs.Translation.{path, translated, stepCount}
+use Rattle.meaning.proofs.Closure.{On, closure-sound, closure-complete}
+use Rattle.meaning.proofs.Views.{accepted-keeps, below-steps, steps-below}
+use Rattle.meaning.proofs.NodeKinds.{kinds-live}
+use Rattle.meaning.proofs.Counts.{slashesOf, notsOf, count-split, translated-length, translated-legal}
+use Rattle.meaning.proofs.Right.{path-right, translated-right}
+use Rattle.meaning.proofs.Sound.{announced-live, run-announced, none-selected}
+
+-- The closure that is computed is the inductive one, for any relation on the numbers below n, cycles included.
+pub closure-is-one-or-more : (n : ℕ) (r : Relation) → On n r → (v w : ℕ) → closure n r v w ≡ true ↔ OneOrMore r v w
+closure-is-one-or-more n r on v w = (closure-sound n r, closure-complete n r on)
+
+-- The step count is the query's nodes, plus five for each // and one for each not; and so many steps are written.
+pub step-count : (p : XPath) → stepCount p ≡ queryNodes p + 5 * slashesOf p + notsOf p
+unfolding stepCount queryNodes
+step-count p = count-split p
+
+pub step-count-written : (g : Graph) (p : XPath) → length (translated g p) ≡ stepCount p
+step-count-written g p = translated-length g p
+
+module _ (g : Graph) (legal : LegalGraph g) where
+  -- A translated program of at most so many steps is a legal program: each operand is below its own step, each mask inside k.
+  pub translation-is-legal : (limit : ℕ) (p : XPath) → LegalPath (g .k) p → stepCount p ≤ limit → LegalProgram limit (g .k) (translated g p)
+  translation-is-legal limit p = translated-legal limit g legal p
+
+  -- Only live kinds are announced, for any step of any program.
+  pub announced-kinds-are-live : (os : List Operation) (s A B : ℕ) → at (announced g os) s A B ≡ true → (live g A ≡ true) × (live g B ≡ true)
+  announced-kinds-are-live os s A B h = announced-live g legal os s A B h
+
+  module _ (limit : ℕ) (es : List Element) (accepted : Accepted limit g es) where
+    -- The kind of every node of an accepted document is live.
+    pub kinds-are-live : (v : ℕ) → v ≤ length es → live g (node es v .kind) ≡ true
+    unfolding view
+    kinds-are-live v l = kinds-live g legal (view es) (accepted-keeps limit g es accepted) v (le-leb v (length es) l)
+
+    -- Below, which goes by the parents, is one or more steps from parent to child.
+    pub below-is-one-or-more : (v w : ℕ) → below (view es) v w ≡ true ↔ OneOrMore (isParent (view es)) v w
+    below-is-one-or-more v w =
+        (below-steps g (view es) (accepted-keeps limit g es accepted), steps-below g (view es) (accepted-keeps limit g es accepted))
+
+    -- Translation is right: the program's answer is exactly what the path selects from the document node.
+    pub translation-is-right : (p : XPath) → answer (view es) (translated g p) ≡ selected (view es) p
+    translation-is-right p = translated-right g legal (view es) (accepted-keeps limit g es accepted) p
+
+    -- It follows from this: wherever a path's steps stand, under any context kinds C, the last of them relates
+    -- each node whose kind is in C to the nodes that the path reaches from it.
+    pub translated-steps-are-right : (p : XPath) (C : ℕ) (os : List Operation) (v w : ℕ) → v ≤ length es → w ≤ length es → bit C (node es v .kind) ≡ true
+        → at (run (view es) (path g C p os)) (last (path g C p os)) v w ≡ reaches p (view es) v w
+    unfolding view
+    translated-steps-are-right p C os v w lv lw c =
+        path-right g legal (view es) (accepted-keeps limit g es accepted) p C os v w (le-leb v (length es) lv) (le-leb w (length es) lw) c
+
+    -- Announcements are sound, for every program, ours or not: each row of each step joins a pair announced for it.
+    pub announcements-are-sound : (os : List Operation) (s v w : ℕ) → at (run (view es) os) s v w ≡ true
+        → at (announced g os) s (node es v .kind) (node es w .kind) ≡ true
+    unfolding view
+    announcements-are-sound os s v w h = run-announced g legal (view es) (accepted-keeps limit g es accepted) os s v w h
+
+    -- Nothing announced from the document node for the last step, nothing selected.
+    pub nothing-announced-nothing-selected : (os : List Operation) → ((B : ℕ) → at (announced g os) (last os) document B ≡ false) → answer (view es) os ≡ []
+    nothing-announced-nothing-selected os none = none-selected g legal (view es) (accepted-keeps limit g es accepted) os none
