@@ -68,6 +68,18 @@ pub struct Refusal {
     pub reason: Reason,
 }
 
+// How a reading came out; what was read stands beside it.
+pub enum Outcome {
+    Accepted,
+    Refused(Refusal),
+}
+
+// A document as a reader hands it on: with no elements where it was refused.
+pub struct DocumentRead {
+    pub outcome: Outcome,
+    pub document: Document,
+}
+
 // The number by which a caller knows the reason.
 pub fn number(reason: Reason) -> u8
     ensures { λ r. ⌜ r ≡ numberOf reason ⌝ }

@@ -1,0 +1,82 @@
+-- Reading a file: fields are judged in file order, and the first refusal met ends the reading.
+use Prim.Native.Nat.{ℕ, _+_, _*_, _-_}
+use mathlib.Core.Bool.{Bool, true, false, _&&_}
+use mathlib.Core.List.{List}
+use lib.Dec.{eqb, ltb, leb}
+use lib.ListN.{length, getD}
+use Rattle.meaning.specs.declared.Reason.{Reason}
+use Rattle.meaning.specs.declared.Reason.the-variants.{Ended, Mark, Version, Extra}
+use Rattle.meaning.specs.declared.Refusal.{Refusal}
+use Rattle.fields.specs.declared.Field.{Field}
+use Rattle.fields.specs.declared.Field.the-variants.{Got, Refused}
+
+-- a value and where reading goes on, or why it does not
+pub data Read (A : Type 0) : Type 0 where
+  got : A → ℕ → Read A
+  refused : Refusal → Read A
+
+-- what is read of the bytes of a file, from a place on
+abbrev pub Reader : Type 0 → Type 0
+Reader A = List ℕ → ℕ → Read A
+
+abbrev pub bind : {A B : Type 0} → Read A → (A → ℕ → Read B) → Read B
+bind (got a at) f = f a at
+bind (refused r) f = refused r
+
+infixl 10 _>>=_
+infixl 10 _>>_
+abbrev pub _>>=_ : {A B : Type 0} → Reader A → (A → Reader B) → Reader B
+_>>=_ m f s at = bind (m s at) (λ a at′. f a s at′)
+
+abbrev pub _>>_ : {A B : Type 0} → Reader A → Reader B → Reader B
+_>>_ m n = m >>= λ _. n
+
+abbrev pub give : {A : Type 0} → A → Reader A
+give a s at = got a at
+
+abbrev pub refuse : {A : Type 0} → Reason → Reader A
+refuse r s at = refused (record { reason = r })
+
+abbrev pub pick : {A : Type 0} → Bool → A → A → A
+pick true a b = a
+pick false a b = b
+
+-- what has been read is judged
+abbrev pub judge : Bool → Reason → Reader (Unit {0})
+judge b r = pick b (give tt) (refuse r)
+
+-- a number of one byte
+unfoldable pub byte : Reader ℕ
+byte s at = pick (ltb at (length s)) (got (getD s at 0) (at + 1)) (refuse Ended s at)
+
+-- a number of 16 bits, big-endian
+unfoldable pub word : Reader ℕ
+word s at = pick (leb 2 (length s - at)) (got (getD s at 0 * 256 + getD s (at + 1) 0) (at + 2)) (refuse Ended s at)
+
+-- three letters
+unfoldable pub mark : ℕ → ℕ → ℕ → Reader (Unit {0})
+mark a b c s at =
+    pick (leb 3 (length s - at))
+    (pick (eqb (getD s at 0) a && (eqb (getD s (at + 1) 0) b && eqb (getD s (at + 2) 0) c)) (got tt (at + 3)) (refuse Mark s at))
+    (refuse Ended s at)
+
+-- a file begins with its mark and version 1
+unfoldable pub header : ℕ → ℕ → ℕ → Reader (Unit {0})
+header a b c = do
+  mark a b c
+  v ← word
+  judge (eqb v 1) Version
+
+-- no bytes follow
+unfoldable pub end : Reader (Unit {0})
+end s at = judge (leb (length s) at) Extra s at
+
+-- what a field reader's answer says
+abbrev pub readOf : Field → Read ℕ
+readOf (Got v c) = got v (c .at)
+readOf (Refused r) = refused r
+
+-- a field that only has to be passed
+abbrev pub passed : Read (Unit {0}) → Read ℕ
+passed (got u at) = got 0 at
+passed (refused r) = refused r

@@ -1,0 +1,26 @@
+-- How the code's records hold a list of elements or of operations: in the first places, the others blank.
+use Prim.Native.Nat.{ℕ, suc, _-_}
+use mathlib.Core.List.{List, [], _∷_, _++_}
+use lib.ListN.{length, replicate}
+use Rattle.meaning.specs.declared.Element.{Element}
+use Rattle.meaning.specs.declared.Document.{Document}
+use Rattle.meaning.specs.declared.Operation.{Operation}
+use Rattle.meaning.specs.declared.Operation.the-variants.{Itself}
+use Rattle.meaning.specs.declared.Step.{Step}
+use Rattle.meaning.specs.declared.Program.{Program}
+use Rattle.meaning.specs.Limits.{elementLimit, stepLimit}
+use Rattle.meaning.specs.Documents.{documentNode}
+
+unfoldable pub documentOf : List Element → Document
+documentOf es = record { count = length es; elements = es ++ replicate (elementLimit - length es) documentNode }
+
+abbrev pub blankStep : Step
+blankStep = record { number = 0; operation = Itself }
+
+-- the operations as steps, numbered from s on
+unfoldable pub stepsFrom : ℕ → List Operation → List Step
+stepsFrom s [] = []
+stepsFrom s (o ∷ os) = record { number = s; operation = o } ∷ stepsFrom (suc s) os
+
+unfoldable pub programOf : List Operation → Program
+programOf os = record { count = length os; steps = stepsFrom 0 os ++ replicate (stepLimit - length os) blankStep }
