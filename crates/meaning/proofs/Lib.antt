@@ -11,4 +11,5 @@ pub mod Runs
 pub mod Counts
 pub mod Right
 pub mod Sound
+pub mod Records
 pub mod Theorems

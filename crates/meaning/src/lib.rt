@@ -80,6 +80,13 @@ pub struct DocumentRead {
     pub document: Document,
 }
 
+// What a call answers: 0 and a count, or the number of a reason and 0.
+#[repr(C)]
+pub struct Answer {
+    pub number: u8,
+    pub count: u32,
+}
+
 // The number by which a caller knows the reason.
 pub fn number(reason: Reason) -> u8
     ensures { λ r. ⌜ r ≡ numberOf reason ⌝ }
