@@ -29,6 +29,7 @@ pub handed-passed : {x : Field} (e : Read (Unit {0})) {r : Refusal} → readOf x
 handed-passed (got u n) p q = cc (handed p q)
 handed-passed (refused r) p q = cc (handed p q)
 
+-- One law for each return.
 module _ (s : List ℕ) (at : ℕ) where
   pub byte-ended : {x : Field} → length s ≤ at → x ≡ Refused (record { reason = Ended }) → readOf x ≡ byte s at
   unfolding byte
@@ -61,21 +62,24 @@ module _ (s : List ℕ) (at : ℕ) where
       unfolding mark
       mark-ended h q = ap readOf q ∙ simp (← e, lt-leb _ _ h)
 
-      pub mark-first : {x : Field} → 3 ≤ l → (getD s at 0 ≡ a → ⊥) → x ≡ Refused (record { reason = Mark }) → readOf x ≡ passed (mark a b c s at)
-      unfolding mark
-      mark-first h n q = ap readOf q ∙ simp (← e, le-leb _ _ h, ne-eqb _ _ n)
+      module _ (h : 3 ≤ l) where
+        pub mark-first : {x : Field} → (getD s at 0 ≡ a → ⊥) → x ≡ Refused (record { reason = Mark }) → readOf x ≡ passed (mark a b c s at)
+        unfolding mark
+        mark-first n q = ap readOf q ∙ simp (← e, le-leb _ _ h, ne-eqb _ _ n)
 
-      pub mark-second : {x : Field} → 3 ≤ l → getD s at 0 ≡ a → (getD s (at + 1) 0 ≡ b → ⊥) → x ≡ Refused (record { reason = Mark }) → readOf x ≡ passed (mark a b c s at)
-      unfolding mark
-      mark-second h i n q = ap readOf q ∙ simp (← e, le-leb _ _ h, eq-eqb _ _ i, ne-eqb _ _ n)
+        module _ (i : getD s at 0 ≡ a) where
+          pub mark-second : {x : Field} → (getD s (at + 1) 0 ≡ b → ⊥) → x ≡ Refused (record { reason = Mark }) → readOf x ≡ passed (mark a b c s at)
+          unfolding mark
+          mark-second n q = ap readOf q ∙ simp (← e, le-leb _ _ h, eq-eqb _ _ i, ne-eqb _ _ n)
 
-      pub mark-third : {x : Field} → 3 ≤ l → getD s at 0 ≡ a → getD s (at + 1) 0 ≡ b → (getD s (at + 2) 0 ≡ c → ⊥) → x ≡ Refused (record { reason = Mark }) → readOf x ≡ passed (mark a b c s at)
-      unfolding mark
-      mark-third h i j n q = ap readOf q ∙ simp (← e, le-leb _ _ h, eq-eqb _ _ i, eq-eqb _ _ j, ne-eqb _ _ n)
+          module _ (j : getD s (at + 1) 0 ≡ b) where
+            pub mark-third : {x : Field} → (getD s (at + 2) 0 ≡ c → ⊥) → x ≡ Refused (record { reason = Mark }) → readOf x ≡ passed (mark a b c s at)
+            unfolding mark
+            mark-third n q = ap readOf q ∙ simp (← e, le-leb _ _ h, eq-eqb _ _ i, eq-eqb _ _ j, ne-eqb _ _ n)
 
-      pub mark-got : 3 ≤ l → getD s at 0 ≡ a → getD s (at + 1) 0 ≡ b → getD s (at + 2) 0 ≡ c → got 0 (at + 3) ≡ passed (mark a b c s at)
-      unfolding mark
-      mark-got h i j k = simp (← e, le-leb _ _ h, eq-eqb _ _ i, eq-eqb _ _ j, eq-eqb _ _ k)
+            pub mark-got : getD s (at + 2) 0 ≡ c → got 0 (at + 3) ≡ passed (mark a b c s at)
+            unfolding mark
+            mark-got k = simp (← e, le-leb _ _ h, eq-eqb _ _ i, eq-eqb _ _ j, eq-eqb _ _ k)
 
 module _ (a b c : ℕ) (s : List ℕ) (at : ℕ) {x : Field} (p : readOf x ≡ passed (mark a b c s at)) where
   pub header-unmarked : {r : Refusal} → x ≡ Refused r → readOf x ≡ passed (header a b c s at)
@@ -87,13 +91,14 @@ module _ (a b c : ℕ) (s : List ℕ) (at : ℕ) {x : Field} (p : readOf x ≡ p
     unfolding header
     header-unversioned k = h ∙ simp (taken-passed (mark a b c s at) p q, handed h k)
 
-    pub header-other : {z : Field} {w : ℕ} {f : Cursor} → y ≡ Got w f → (w ≡ 1 → ⊥) → z ≡ Refused (record { reason = Version }) → readOf z ≡ passed (header a b c s at)
-    unfolding header
-    header-other k n i = ap readOf i ∙ simp (taken-passed (mark a b c s at) p q, taken h k, ne-eqb _ _ n)
+    module _ {w : ℕ} {f : Cursor} (k : y ≡ Got w f) where
+      pub header-other : {z : Field} → (w ≡ 1 → ⊥) → z ≡ Refused (record { reason = Version }) → readOf z ≡ passed (header a b c s at)
+      unfolding header
+      header-other n i = ap readOf i ∙ simp (taken-passed (mark a b c s at) p q, taken h k, ne-eqb _ _ n)
 
-    pub header-got : {w : ℕ} {f : Cursor} → y ≡ Got w f → w ≡ 1 → got 0 (f .at) ≡ passed (header a b c s at)
-    unfolding header
-    header-got k e = simp (taken-passed (mark a b c s at) p q, taken h k, eq-eqb _ _ e)
+      pub header-got : w ≡ 1 → got 0 (f .at) ≡ passed (header a b c s at)
+      unfolding header
+      header-got e = simp (taken-passed (mark a b c s at) p q, taken h k, eq-eqb _ _ e)
 
 pub ruleset laws = (
   byte-ended,

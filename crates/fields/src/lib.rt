@@ -68,7 +68,9 @@ impl Cursor {
         if self.left(s) < 2 {
             return refuse(Reason::Ended);
         }
-        Field::Got(joined(s[at], s[at + 1]), Cursor { at: at + 2 })
+        let high = s[at];
+        let low = s[at + 1];
+        Field::Got(joined(high, low), Cursor { at: at + 2 })
     }
 
     // The three letters are one field.

@@ -12,20 +12,20 @@ refuse-requires c κs = search laws
 returns : tie.Need-returns
 returns c = search laws
 
-shared-slice-read-joined : tie.Need-shared-slice-read-joined
-shared-slice-read-joined c = search laws
+shared-slice-read-high : tie.Need-shared-slice-read-high
+shared-slice-read-high c = search laws
 
-add-joined : tie.Need-add-joined
-add-joined c = search laws
+add-low : tie.Need-add-low
+add-low c = search laws
 
-shared-slice-read-joined-2 : tie.Need-shared-slice-read-joined-2
-shared-slice-read-joined-2 c = search laws
+shared-slice-read-low : tie.Need-shared-slice-read-low
+shared-slice-read-low c = search laws
 
 joined-requires : tie.Need-joined-requires
 joined-requires c κs = search laws
 
-add-t12 : tie.Need-add-t12
-add-t12 c = search laws
+add-t6 : tie.Need-add-t6
+add-t6 c = search laws
 
 returns-2 : tie.Need-returns-2
 returns-2 c = search laws
@@ -37,9 +37,9 @@ word-spec =
     left-requires
     refuse-requires
     returns
-    shared-slice-read-joined
-    add-joined
-    shared-slice-read-joined-2
+    shared-slice-read-high
+    add-low
+    shared-slice-read-low
     joined-requires
-    add-t12
+    add-t6
     returns-2)
