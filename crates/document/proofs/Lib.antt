@@ -1,0 +1,3 @@
+-- The laws behind the reader.
+pub mod Tokens
+pub mod Reading

@@ -1,0 +1,29 @@
+-- How the reader's records hold where reading stands: what its parts promise each other.
+use mathlib.Core.Path.{_≡_}
+use lib.ListN.{take}
+use Rattle.meaning.specs.Records.{documentOf}
+use Rattle.fields.specs.declared.Field.{Field}
+use Rattle.fields.specs.declared.Field.the-variants.{Got, Refused}
+use Rattle.fields.specs.Read.{Read, got, refused}
+use Rattle.fields.specs.Outcomes.{valueOr}
+use Rattle.document.specs.declared.Standing.{Standing}
+use Rattle.document.specs.declared.Turn.{Turn}
+use Rattle.document.specs.Tre.{Open}
+
+unfoldable pub standingOf : Open → Standing
+standingOf o = record { document = documentOf (o .elements); inner = o .inner }
+
+unfoldable pub openIn : Standing → Open
+openIn st = record { elements = take (st .document .count) (st .document .elements); inner = st .inner }
+
+-- the places past the elements are blank
+abbrev pub Kept : Standing → Type 0
+Kept st = st ≡ standingOf (openIn st)
+
+unfoldable pub nextOf : Read Open → Field
+nextOf (got o at) = Got 0 (record { at = at })
+nextOf (refused r) = Refused r
+
+-- after a token that was read from o on: where reading stands, which a refusal leaves, and where it goes on
+unfoldable pub turnOf : Open → Read Open → Turn
+turnOf o e = record { standing = standingOf (valueOr o e); next = nextOf e }

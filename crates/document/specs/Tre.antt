@@ -1,0 +1,74 @@
+-- TRE: tokens, 01 with type and text number opens, 02 closes; ends with the close of element 1.
+use Prim.Native.Nat.{ℕ, zero, suc}
+use mathlib.Core.List.{List, [], _∷_, _++_}
+use lib.Dec.{eqb, ltb}
+use lib.ListN.{length}
+use Rattle.meaning.specs.declared.Graph.{Graph}
+use Rattle.meaning.specs.declared.Element.{Element}
+use Rattle.meaning.specs.declared.Reason.the-variants.{Ended, Bound, Code, Kind, Edge}
+use Rattle.meaning.specs.Graphs.{childKind}
+use Rattle.meaning.specs.Documents.{node}
+use Rattle.fields.specs.Read.{Reader, _>>=_, _>>_, give, refuse, judge, pick, byte, word, header, end}
+use Rattle.fields.specs.Write.{byteOf, wordOf, headerOf}
+
+-- the elements opened so far, and the innermost that is open: 0 before the first, and again when element 1 is closed
+pub record Open : Type 0 where
+  pub elements : List Element
+  pub inner : ℕ
+
+abbrev pub nothingOpen : Open
+nothingOpen = record { elements = []; inner = 0 }
+
+-- an element behind the last, which is then the innermost
+unfoldable pub pushed : Open → ℕ → ℕ → Open
+pushed o t x = record { elements = o .elements ++ (record { parent = o .inner; kind = t; text = x } ∷ []); inner = suc (length (o .elements)) }
+
+-- after 01: the count, the type, the edge or root, then the text
+unfoldable pub opened : ℕ → Graph → Open → Reader Open
+opened limit g o = do
+  judge (ltb (length (o .elements)) limit) Bound
+  t ← byte
+  judge (ltb t (g .k)) Kind
+  judge (childKind g (node (o .elements) (o .inner) .kind) t) Edge
+  x ← word
+  give (pushed o t x)
+
+-- after 02, which no file begins with
+unfoldable pub closed : Open → Reader Open
+closed o = do
+  judge (ltb 0 (length (o .elements))) Edge
+  give (record { elements = o .elements; inner = node (o .elements) (o .inner) .parent })
+
+unfoldable pub token : ℕ → Graph → Open → Reader Open
+token limit g o = do
+  code ← byte
+  pick (eqb code 0x01) (opened limit g o) (pick (eqb code 0x02) (closed o) (refuse Code))
+
+-- tokens up to the close of element 1: at most so many as the first number says, which is never less than the bytes left
+unfoldable pub tokens : ℕ → ℕ → Graph → Open → Reader (List Element)
+tokens zero limit g o = refuse Ended
+tokens (suc f) limit g o = do
+  o′ ← token limit g o
+  pick (eqb (o′ .inner) 0) (give (o′ .elements)) (tokens f limit g o′)
+
+unfoldable pub documentFile : ℕ → Graph → Reader (List Element)
+documentFile limit g = do
+  header 0x54 0x52 0x45
+  es ← λ s at. tokens (length s) limit g nothingOpen s at
+  end
+  give es
+
+-- the closes from element a up to its ancestor b, which stays open
+unfoldable pub closes : ℕ → List Element → ℕ → ℕ → List ℕ
+closes zero es a b = []
+closes (suc f) es a b = pick (eqb a b) [] (byteOf 0x02 ++ closes f es (node es a .parent) b)
+
+-- the tokens of the elements that follow element a, and the closes at the end
+unfoldable pub tokensOf : List Element → ℕ → List Element → List ℕ
+tokensOf es a [] = closes (length es) es a 0
+tokensOf es a (e ∷ rest) =
+    closes (length es) es a (e .parent) ++ byteOf 0x01 ++ byteOf (e .kind) ++ wordOf (e .text) ++ tokensOf es (suc a) rest
+
+-- the file of a document
+unfoldable pub documentBytes : List Element → List ℕ
+documentBytes es = headerOf 0x54 0x52 0x45 ++ tokensOf es 0 es

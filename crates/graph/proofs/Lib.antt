@@ -1,0 +1,6 @@
+pub mod Bits
+pub mod Edges
+pub mod MaskReading
+pub mod Reading
+pub mod KindMasks
+pub mod File

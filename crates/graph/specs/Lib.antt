@@ -1,0 +1,2 @@
+pub mod Gra
+pub mod Answers

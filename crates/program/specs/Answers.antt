@@ -1,0 +1,53 @@
+-- What is handed on of a reading of the REL file; after it, what the inner functions answer and ask for.
+use Prim.Native.Nat.{ℕ, _+_, _<_, _≤_}
+use mathlib.Core.List.{List, []}
+use lib.ListN.{set}
+use Rattle.meaning.specs.declared.Operation.{Operation}
+use Rattle.meaning.specs.declared.Operation.the-variants.{Itself}
+use Rattle.meaning.specs.declared.Program.{Program}
+use Rattle.meaning.specs.Records.{programOf}
+use Rattle.fields.specs.declared.Field.{Field}
+use Rattle.fields.specs.declared.Field.the-variants.{Got, Refused}
+use Rattle.fields.specs.Read.{Read, got, refused, readOf}
+use Rattle.fields.specs.Outcomes.{outcomeOf, valueOr}
+use Rattle.program.specs.declared.Layout.{Layout}
+use Rattle.program.specs.declared.Layout.the-variants.{Zeros, Single, Pair, Number, Mask}
+use Rattle.program.specs.declared.ProgramRead.{ProgramRead}
+use Rattle.program.specs.declared.StepRead.{StepRead}
+use Rattle.program.specs.Rel.{layoutOf}
+
+-- a refused program has no steps
+abbrev pub programRead : Read (List Operation) → ProgramRead
+programRead e = record { outcome = outcomeOf e; program = programOf (valueOr [] e) }
+
+-- the operation of one step; SELF stands beside a refusal
+abbrev pub stepAnswer : Read Operation → StepRead
+stepAnswer (got o at) = record { passed = Got 0 (record { at = at }); operation = o }
+stepAnswer (refused r) = record { passed = Refused r; operation = Itself }
+
+-- a field turned the step away
+abbrev pub unreadBy : Field → StepRead
+unreadBy f = record { passed = f; operation = Itself }
+
+-- a field turned the file away
+abbrev pub refusedBy : Field → ProgramRead
+refusedBy f = record { outcome = outcomeOf (readOf f); program = programOf [] }
+
+-- a program with one more step
+abbrev pub addedTo : Program → Operation → Program
+addedTo p o = record { count = p .count + 1; steps = set (p .steps) (p .count) (record { number = p .count; operation = o }) }
+
+-- the numbers that x has room for
+abbrev pub room : Layout → ℕ
+room Zeros = 256
+room Single = 256
+room Pair = 256
+room Number = 65536
+room Mask = 65536
+
+-- an operation's code, and x and y as its layout may have them
+pub record Coded (code x y : ℕ) : Type 0 where
+  pub first : 1 ≤ code
+  pub last : code ≤ 9
+  pub x-room : x < room (layoutOf code)
+  pub y-room : y < 256

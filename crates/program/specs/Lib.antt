@@ -1,0 +1,2 @@
+pub mod Rel
+pub mod Answers

@@ -1,0 +1,2 @@
+pub mod Qry
+pub mod Answers

@@ -1,0 +1,232 @@
+-- The file: one law for each return of the reader, from the header to the last element.
+use Prim.Native.Nat.{ℕ, zero, suc, _+_, _-_, _≤_, _<_}
+use mathlib.Core.Path.{_≡_, refl, sym, ap, _∙_}
+use mathlib.Core.Bool.{Bool, true, false, not}
+use mathlib.Core.List.{List, [], _∷_, _++_}
+use native.Mathlib.Nat.{zero-add}
+use native.Mathlib.Omega.{arith}
+use lib.Dec.{eqb, leb}
+use lib.ListN.{length, getD, take, replicate}
+use borrow.Author.Needs.{needs}
+use borrow.Author.Tests.{eq-eqb, ne-eqb, le-leb, lt-leb, not-true, not-false}
+use Rattle.meaning.specs.declared.Graph.{Graph}
+use Rattle.meaning.specs.declared.Element.{Element}
+use Rattle.meaning.specs.declared.Document.{Document}
+use Rattle.meaning.specs.declared.DocumentRead.{DocumentRead}
+use Rattle.meaning.specs.declared.Outcome.{Outcome}
+use Rattle.meaning.specs.declared.Outcome.the-variants.{Accepted, Refused as TurnedAway}
+use Rattle.meaning.specs.declared.Reason.the-variants.{Bound, Number, Edge}
+use Rattle.meaning.specs.declared.Refusal.{Refusal}
+use Rattle.meaning.specs.Limits.{elementLimit}
+use Rattle.meaning.specs.Documents.{documentNode, view, parentRule, edgeRule}
+use Rattle.meaning.specs.Records.{documentOf}
+use Rattle.fields.specs.Read.{Read, got, refused, bind, judge, _>>_, readOf, passed, byte, header, end}
+use Rattle.fields.specs.Outcomes.{outcomeOf, documentRead}
+use Rattle.fields.specs.declared.Cursor.{Cursor}
+use Rattle.fields.specs.declared.Field.{Field}
+use Rattle.fields.specs.declared.Field.the-variants.{Got, Refused}
+use Rattle.fields.proofs.Laws.{taken, handed, taken-passed, handed-passed}
+use Rattle.fields.proofs.Formats.{bind-out, end-out}
+use Rattle.tables.specs.declared.Row.{Row}
+use Rattle.tables.specs.declared.Gathered.{Gathered}
+use Rattle.tables.specs.declared.GatheredRead.{GatheredRead}
+use Rattle.tables.specs.Edg.{tablesRead, rowsFile, times, eachOnce, placed, elementsOf, elementJudged, elementsJudged, whole, tablesFile}
+use Rattle.tables.specs.Kept.{beside, mapped, none, gathered, Sound, GoodRow, Tabled, ones, listed}
+use Rattle.tables.proofs.Rows.{All, got-same, beside-got, beside-refused, turned-away}
+use Rattle.tables.proofs.Tables.{same-anywhere, none-sound, mapped-refused, gathered-total, tables-out}
+use Rattle.tables.proofs.Numbers.{once-all, elements-long, elements-fill, gathered-elements, gathered-times, ones-once}
+
+pub outcome-refused : {x : Field} {r : Refusal} → x ≡ Refused r → TurnedAway r ≡ outcomeOf (readOf x)
+outcome-refused q = rw q
+
+pub away-empty : {o : Outcome} (x : Field) → o ≡ outcomeOf (readOf x)
+    → _≡_ {A = DocumentRead} (record { outcome = o; document = record { count = 0; elements = replicate elementLimit documentNode } }) (record { outcome = outcomeOf (readOf x); document = documentOf [] })
+unfolding documentOf
+away-empty x h = rw h
+
+pub ruleset away-laws = (outcome-refused, away-empty, needs)
+
+-- header, k and the tables
+module _ (g : Graph) (s : List ℕ) {start : Cursor} (z : start .at ≡ 0) {c : Gathered} (n : c ≡ none) {x : Field} (p : readOf x ≡ passed (header 0x45 0x44 0x47 s (start .at))) where
+  pub rows-headless : {r : Refusal} → x ≡ Refused r → Tabled (record { next = x; gathered = c }) (mapped (gathered none) (rowsFile elementLimit g s 0))
+  unfolding mapped rowsFile
+  rows-headless q =
+      let h = handed-passed (header 0x45 0x44 0x47 s (start .at)) p q in
+      turned-away (rw n none-sound) q (simp (rw z at h))
+
+  module _ {v : ℕ} {first : Cursor} (q : x ≡ Got v first) where
+    headed : header 0x45 0x44 0x47 s 0 ≡ got tt (first .at)
+    headed = rw z at (taken-passed (header 0x45 0x44 0x47 s (start .at)) p q)
+
+    module _ {y : Field} (h : readOf y ≡ byte s (first .at)) where
+      pub rows-uncounted : {r : Refusal} → y ≡ Refused r → Tabled (record { next = y; gathered = c }) (mapped (gathered none) (rowsFile elementLimit g s 0))
+      unfolding mapped rowsFile
+      rows-uncounted i = turned-away (rw n none-sound) i (simp (headed, handed h i))
+
+      module _ {k : ℕ} {after : Cursor} (i : y ≡ Got k after) {a b : ℕ} (wide : a ≡ k) (place : b ≡ g .k) where
+        pub rows-other : {u : Field} → (a ≡ b → ⊥) → u ≡ Refused (record { reason = Bound }) → Tabled (record { next = u; gathered = c }) (mapped (gathered none) (rowsFile elementLimit g s 0))
+        unfolding mapped rowsFile
+        rows-other o j = turned-away (rw n none-sound) j (simp (headed, taken h i, ne-eqb k (g .k) (λ e. o (omega arith))))
+
+        module _ (same : a ≡ b) (t : GatheredRead) (w : Tabled t (mapped (gathered none) (tablesRead elementLimit 0 0 (g .k) s (after .at)))) where
+          kind-count : k ≡ g .k
+          kind-count = omega arith
+
+          all-kinds : eqb (g .k) (g .k) ≡ true
+          all-kinds = eq-eqb (g .k) (g .k) refl
+
+          pub rows-stopped : {r : Refusal} → t .next ≡ Refused r → Tabled t (mapped (gathered none) (rowsFile elementLimit g s 0))
+          unfolding mapped rowsFile
+          rows-stopped j =
+              let stop = mapped-refused (gathered none) (tablesRead elementLimit 0 0 (g .k) s (after .at)) (beside-refused (t .gathered) (w .right) j) in
+              turned-away (w .sound) j (simp (headed, taken h i, kind-count, all-kinds, stop))
+
+          module _ {m : ℕ} {last : Cursor} (j : t .next ≡ Got m last) where
+            -- the rows that were read
+            tabled : (rs : List Row) × (tablesRead elementLimit 0 0 (g .k) s (after .at) ≡ got rs (last .at)) × (gathered none rs ≡ t .gathered) × (length rs ≡ t .gathered .total)
+            unfolding mapped none
+            tabled =
+                let (rs, n, q, f) = bind-out (tablesRead elementLimit 0 0 (g .k) s (after .at)) _ (beside-got (t .gathered) (w .right) j) in
+                let kept : gathered none rs ≡ t .gathered = cc in
+                let next : n ≡ last .at = cc in
+                (rs, rw next at q, kept, omega (arith, gathered-total none rs, ap (λ (c : Gathered). c .total) kept))
+
+            pub rows-none : {u : Field} → t .gathered .total ≡ 0 → u ≡ Refused (record { reason = Bound }) → Tabled (record { next = u; gathered = t .gathered }) (mapped (gathered none) (rowsFile elementLimit g s 0))
+            unfolding mapped rowsFile
+            rows-none o l =
+                let (rs, q, kept, long) = tabled in
+                turned-away (w .sound) l (simp (headed, taken h i, kind-count, all-kinds, q, lt-leb 1 (length rs) (omega arith)))
+
+            pub rows-read : (t .gathered .total ≡ 0 → ⊥) → Tabled t (mapped (gathered none) (rowsFile elementLimit g s 0))
+            unfolding mapped rowsFile
+            rows-read o =
+                let (rs, q, kept, long) = tabled in
+                record { sound = w .sound; right = ap (λ (f : Field). beside f (t .gathered)) j ∙ sym (simp (headed, taken h i, kind-count, all-kinds, q, le-leb 1 (length rs) (omega arith), kept)) }
+
+pub ruleset rows-laws = (rows-headless, rows-uncounted, rows-other, rows-stopped, rows-none, rows-read, needs)
+
+-- nothing that is judged of the whole depends on the bytes
+module _ (g : Graph) (es : List Element) (s : List ℕ) where
+  element-anywhere : (i at : ℕ) → elementJudged g es i s at ≡ elementJudged g es i [] at
+  unfolding elementJudged
+  element-anywhere i at = go (parentRule (view es) i) (edgeRule g (view es) i)
+    where
+      go : (b c : Bool) → (judge b Number >> judge c Edge) s at ≡ (judge b Number >> judge c Edge) [] at
+      go true true = refl
+      go true false = refl
+      go false c = refl
+
+  judged-anywhere : (i n at : ℕ) → elementsJudged g es i n s at ≡ elementsJudged g es i n [] at
+  unfolding elementsJudged
+  judged-anywhere i zero at = refl
+  judged-anywhere i (suc n) at = rw (element-anywhere i at) (go (judged-anywhere (suc i) n) (elementJudged g es i [] at))
+    where
+      go : ((m : ℕ) → elementsJudged g es (suc i) n s m ≡ elementsJudged g es (suc i) n [] m) → (e : Read (Unit {0}))
+          → bind e (λ _ m. elementsJudged g es (suc i) n s m) ≡ bind e (λ _ m. elementsJudged g es (suc i) n [] m)
+      go rest (got u m) = rest m
+      go rest (refused r) = refl
+
+rows-good : (g : Graph) (s : List ℕ) {rs : List Row} {n : ℕ} → rowsFile elementLimit g s 0 ≡ got rs n → All (GoodRow elementLimit) rs
+unfolding rowsFile
+rows-good g s h =
+    let (_, a, _, h1) = bind-out (header 0x45 0x44 0x47 s 0) _ h in
+    let (k, b, _, h2) = bind-out (byte s a) _ h1 in
+    let (_, c, _, h3) = bind-out (judge (eqb k (g .k)) Bound s b) _ h2 in
+    let (rs, d, i, h4) = bind-out (tablesRead elementLimit 0 0 k s c) _ h3 in
+    let (_, e, _, h5) = bind-out (judge (leb 1 (length rs)) Bound s d) _ h4 in
+    rw (got-same h5 .0) at (tables-out elementLimit 0 0 k s c i)
+
+-- what is kept of rows
+record Keeps (c : Gathered) (rs : List Row) : Type 0 where
+  count : c .total ≡ length rs
+  room : length rs ≤ elementLimit
+  good : All (GoodRow elementLimit) rs
+  elements : c .elements ≡ placed (replicate elementLimit documentNode) rs
+  once : ones (c .total) (c .times) ≡ eachOnce (length rs) rs
+
+keeps-rows : {c : Gathered} {rs : List Row} → Sound c → All (GoodRow elementLimit) rs → gathered none rs ≡ c → Keeps c rs
+unfolding none
+keeps-rows {c} {rs} sound good e =
+    let count : c .total ≡ length rs = rw e at (gathered-total none rs ∙ zero-add (length rs)) in
+    let came : (i : ℕ) → getD (gathered none rs .times) i 0 ≡ times (suc i) rs =
+    λ i. gathered-times none good refl i ∙ ap (λ n. n + times (suc i) rs) (same-anywhere {A = ℕ} 0 elementLimit i) ∙ zero-add (times (suc i) rs) in
+    record {
+      count = count;
+      room = omega (arith, sound .total-most);
+      good = good;
+      elements = rw e at (gathered-elements none rs);
+      once = rw count (ones-once (c .times) rs (rw e at came) (length rs));
+    }
+
+module _ {c : Gathered} {rs : List Row} (k : Keeps c rs) where
+  keeps-listed : listed (record { count = c .total; elements = c .elements }) ≡ elementsOf elementLimit rs
+  unfolding listed elementsOf
+  keeps-listed = rw (k .elements, k .count)
+
+  keeps-document : eachOnce (length rs) rs ≡ true → _≡_ {A = Document} (record { count = c .total; elements = c .elements }) (documentOf (elementsOf elementLimit rs))
+  unfolding documentOf
+  keeps-document h =
+      let fill = elements-fill elementLimit rs (k .room) (once-all (k .good) h) in
+      let long = elements-long elementLimit rs (k .room) in
+      rw (k .elements ∙ fill, k .count, long)
+
+module _ (g : Graph) (s : List ℕ) where
+  -- a field turned the file away
+  away : {y : DocumentRead} {f : Field} {r : Refusal} → y ≡ record { outcome = outcomeOf (readOf f); document = documentOf [] } → f ≡ Refused r
+      → tablesFile elementLimit g s 0 ≡ refused r → y ≡ documentRead (tablesFile elementLimit g s 0)
+  away h q e = h ∙ rw (q, e)
+
+  module _ (x : GatheredRead) (t : Tabled x (mapped (gathered none) (rowsFile elementLimit g s 0))) where
+    pub read-refused : {y : DocumentRead} {r : Refusal} → y ≡ record { outcome = outcomeOf (readOf (x .next)); document = documentOf [] } → x .next ≡ Refused r
+        → y ≡ documentRead (tablesFile elementLimit g s 0)
+    unfolding tablesFile
+    read-refused h q = away h q (simp (mapped-refused (gathered none) (rowsFile elementLimit g s 0) (beside-refused (x .gathered) (t .right) q)))
+
+    module _ {v : ℕ} {last : Cursor} (q : x .next ≡ Got v last) where
+      found : (rs : List Row) × (rowsFile elementLimit g s 0 ≡ got rs (last .at)) × Keeps (x .gathered) rs
+      unfolding mapped
+      found =
+          let (rs, n, i, j) = bind-out (rowsFile elementLimit g s 0) _ (beside-got (x .gathered) (t .right) q) in
+          let (kept, next) = got-same j in
+          (rs, rw next at i, keeps-rows (t .sound) (rows-good g s i) kept)
+
+      module _ {f : Field} (h : readOf f ≡ passed (end s (last .at))) where
+        pub read-extra : {y : DocumentRead} {r : Refusal} → y ≡ record { outcome = outcomeOf (readOf f); document = documentOf [] } → f ≡ Refused r
+            → y ≡ documentRead (tablesFile elementLimit g s 0)
+        unfolding tablesFile
+        read-extra i k = let (rs, e, _) = found in away i k (simp (e, handed-passed (end s (last .at)) h k))
+
+        module _ {m : ℕ} {c : Cursor} (k : f ≡ Got m c) {b : Bool} (o : b ≡ ones (x .gathered .total) (x .gathered .times)) where
+          ended : end s (last .at) ≡ got tt (last .at)
+          ended = let e = taken-passed (end s (last .at)) h k in rw (← (end-out s (last .at) e .1)) at e
+
+          pub read-repeated : {y : DocumentRead} {u : Field} → y ≡ record { outcome = outcomeOf (readOf u); document = documentOf [] } → not b ≡ true
+              → u ≡ Refused (record { reason = Number }) → y ≡ documentRead (tablesFile elementLimit g s 0)
+          unfolding tablesFile whole
+          read-repeated i p l = let (rs, e, keeps) = found in away i l (simp (e, ended, ← (keeps .once), ← o, not-true b p))
+
+          module _ (p : not b ≡ false) (j : Field) (w : readOf j ≡ passed (elementsJudged g (listed (record { count = x .gathered .total; elements = x .gathered .elements })) 1 (x .gathered .total) [] (last .at))) where
+            judged : (rs : List Row) → Keeps (x .gathered) rs → readOf j ≡ passed (elementsJudged g (elementsOf elementLimit rs) 1 (length rs) s (last .at))
+            judged rs keeps = w ∙ rw (keeps-listed keeps, keeps .count, ← (judged-anywhere g (elementsOf elementLimit rs) s 1 (length rs) (last .at)))
+
+            once : (rs : List Row) → Keeps (x .gathered) rs → eachOnce (length rs) rs ≡ true
+            once rs keeps = sym (keeps .once) ∙ sym o ∙ not-false b p
+
+            pub read-misjudged : {y : DocumentRead} {r : Refusal} → y ≡ record { outcome = outcomeOf (readOf j); document = documentOf [] } → j ≡ Refused r
+                → y ≡ documentRead (tablesFile elementLimit g s 0)
+            unfolding tablesFile whole
+            read-misjudged i l =
+                let (rs, e, keeps) = found in
+                let stop = handed-passed (elementsJudged g (elementsOf elementLimit rs) 1 (length rs) s (last .at)) (judged rs keeps) l in
+                away i l (simp (e, ended, once rs keeps, stop))
+
+            pub read-accepted : {n : ℕ} {d : Cursor} → j ≡ Got n d
+                → _≡_ {A = DocumentRead} (record { outcome = Accepted; document = record { count = x .gathered .total; elements = x .gathered .elements } }) (documentRead (tablesFile elementLimit g s 0))
+            unfolding tablesFile whole
+            read-accepted {d = d} l =
+                let (rs, e, keeps) = found in
+                let passes = taken-passed (elementsJudged g (elementsOf elementLimit rs) 1 (length rs) s (last .at)) (judged rs keeps) l in
+                let file : tablesFile elementLimit g s 0 ≡ got (elementsOf elementLimit rs) (d .at) = simp (e, ended, once rs keeps, passes) in
+                rw (file, keeps-document keeps (once rs keeps))
+
+pub ruleset read-laws = (read-refused, read-extra, read-repeated, read-misjudged, read-accepted, needs)

@@ -1,0 +1,119 @@
+-- EDG: k; then per type in order: row count, rows of from, to, text number, `to` ascending.
+use Prim.Native.Nat.{ℕ, zero, suc, _+_, _-_}
+use mathlib.Core.Bool.{Bool, true, _&&_}
+use mathlib.Core.List.{List, [], _∷_, _++_}
+use lib.Dec.{eqb, ltb, leb}
+use lib.ListN.{length, take, set, replicate}
+use Rattle.meaning.specs.declared.Graph.{Graph}
+use Rattle.meaning.specs.declared.Element.{Element}
+use Rattle.meaning.specs.declared.Reason.the-variants.{Bound, Number, Edge}
+use Rattle.meaning.specs.Documents.{view, documentNode, parentRule, edgeRule}
+use Rattle.fields.specs.Read.{Reader, _>>=_, _>>_, give, judge, pick, byte, word, header, end}
+use Rattle.fields.specs.Write.{byteOf, wordOf, headerOf}
+use Rattle.tables.specs.declared.Row.{Row}
+
+-- a row's number is 1 to the limit, above the one before it in its table, and above its parent's
+unfoldable pub rowRule : ℕ → ℕ → ℕ → ℕ → Bool
+rowRule limit before from to = leb 1 to && (leb to limit && (ltb before to && ltb from to))
+
+-- a row of type t behind the row numbered before: judged as one field of four bytes
+unfoldable pub rowRead : ℕ → ℕ → ℕ → Reader Row
+rowRead limit t before = do
+  from ← byte
+  to ← byte
+  x ← word
+  judge (rowRule limit before from to) Number
+  give (record { number = to; element = record { parent = from; kind = t; text = x } })
+
+-- n rows of one type
+unfoldable pub rowsRead : ℕ → ℕ → ℕ → ℕ → Reader (List Row)
+rowsRead limit t before zero = give []
+rowsRead limit t before (suc n) = do
+  r ← rowRead limit t before
+  rs ← rowsRead limit t (r .number) n
+  give (r ∷ rs)
+
+-- the tables of n types, from type t on, behind so many rows
+unfoldable pub tablesRead : ℕ → ℕ → ℕ → ℕ → Reader (List Row)
+tablesRead limit t total zero = give []
+tablesRead limit t total (suc n) = do
+  c ← byte
+  judge (leb (total + c) limit) Bound
+  rs ← rowsRead limit t 0 c
+  more ← tablesRead limit (suc t) (total + c) n
+  give (rs ++ more)
+
+-- how many rows have the number i
+unfoldable pub times : ℕ → List Row → ℕ
+times i [] = 0
+times i (r ∷ rs) = pick (eqb (r .number) i) 1 0 + times i rs
+
+-- numbers are 1 to n, each once
+unfoldable pub eachOnce : ℕ → List Row → Bool
+eachOnce zero rs = true
+eachOnce (suc n) rs = eachOnce n rs && eqb (times (suc n) rs) 1
+
+-- each row's element is put in its number's place
+unfoldable pub placed : List Element → List Row → List Element
+placed es [] = es
+placed es (r ∷ rs) = placed (set es (r .number - 1) (r .element)) rs
+
+unfoldable pub elementsOf : ℕ → List Row → List Element
+elementsOf limit rs = take (length rs) (placed (replicate limit documentNode) rs)
+
+-- parent rule, then root type or edge
+unfoldable pub elementJudged : Graph → List Element → ℕ → Reader (Unit {0})
+elementJudged g es i = do
+  judge (parentRule (view es) i) Number
+  judge (edgeRule g (view es) i) Edge
+
+-- n elements from element i on
+unfoldable pub elementsJudged : Graph → List Element → ℕ → ℕ → Reader (Unit {0})
+elementsJudged g es i zero = give tt
+elementsJudged g es i (suc n) = do
+  elementJudged g es i
+  elementsJudged g es (suc i) n
+
+-- header, k and the tables
+unfoldable pub rowsFile : ℕ → Graph → Reader (List Row)
+rowsFile limit g = do
+  header 0x45 0x44 0x47
+  k ← byte
+  judge (eqb k (g .k)) Bound
+  rs ← tablesRead limit 0 0 k
+  judge (leb 1 (length rs)) Bound
+  give rs
+
+-- the whole: numbers, then per element
+unfoldable pub whole : ℕ → Graph → List Row → Reader (List Element)
+whole limit g rs = do
+  judge (eachOnce (length rs) rs) Number
+  elementsJudged g (elementsOf limit rs) 1 (length rs)
+  give (elementsOf limit rs)
+
+unfoldable pub tablesFile : ℕ → Graph → Reader (List Element)
+tablesFile limit g = do
+  rs ← rowsFile limit g
+  end
+  whole limit g rs
+
+-- the rows of type t among elements that are numbered from i on
+unfoldable pub rowsOf : ℕ → ℕ → List Element → List Row
+rowsOf t i [] = []
+rowsOf t i (e ∷ es) = pick (eqb (e .kind) t) (record { number = i; element = e } ∷ []) [] ++ rowsOf t (suc i) es
+
+unfoldable pub rowsBytes : List Row → List ℕ
+rowsBytes [] = []
+rowsBytes (r ∷ rs) = byteOf (r .element .parent) ++ byteOf (r .number) ++ wordOf (r .element .text) ++ rowsBytes rs
+
+unfoldable pub tableBytes : List Row → List ℕ
+tableBytes rs = byteOf (length rs) ++ rowsBytes rs
+
+-- the tables of n types, from type t on
+unfoldable pub tablesOf : List Element → ℕ → ℕ → List ℕ
+tablesOf es t zero = []
+tablesOf es t (suc n) = tableBytes (rowsOf t 1 es) ++ tablesOf es (suc t) n
+
+-- the tables file of a document
+unfoldable pub tablesBytes : Graph → List Element → List ℕ
+tablesBytes g es = headerOf 0x45 0x44 0x47 ++ byteOf (g .k) ++ tablesOf es 0 (g .k)

@@ -1,0 +1,71 @@
+-- What the reader keeps of the rows so far, and how its functions' answers say what was read: for contracts inside this crate.
+use Prim.Native.Nat.{ℕ, zero, suc, _+_, _-_, _≤_, _<_}
+use mathlib.Core.Path.{_≡_}
+use mathlib.Core.Bool.{Bool, true, _&&_}
+use mathlib.Core.List.{List, [], _∷_}
+use lib.Dec.{eqb}
+use lib.ListN.{length, getD, take, set, replicate}
+use Rattle.meaning.specs.declared.Document.{Document}
+use Rattle.meaning.specs.declared.Element.{Element}
+use Rattle.meaning.specs.Limits.{elementLimit}
+use Rattle.meaning.specs.Documents.{documentNode}
+use Rattle.fields.specs.Read.{Read, got, refused, bind}
+use Rattle.fields.specs.declared.Field.{Field}
+use Rattle.fields.specs.declared.Field.the-variants.{Got, Refused}
+use Rattle.tables.specs.declared.Row.{Row}
+use Rattle.tables.specs.declared.Gathered.{Gathered}
+use Rattle.tables.specs.declared.GatheredRead.{GatheredRead}
+
+-- what stands beside a field's answer was read, or the refusal was met
+abbrev pub beside : {A : Type 0} → Field → A → Read A
+beside (Got v c) a = got a (c .at)
+beside (Refused r) a = refused r
+
+unfoldable pub mapped : {A B : Type 0} → (A → B) → Read A → Read B
+mapped f e = bind e (λ a at. got (f a) at)
+
+unfoldable pub none : Gathered
+none = record { elements = replicate elementLimit documentNode; times = replicate elementLimit 0; total = 0 }
+
+unfoldable pub put : Gathered → Row → Gathered
+put c r = record {
+  elements = set (c .elements) (r .number - 1) (r .element);
+  times = set (c .times) (r .number - 1) (getD (c .times) (r .number - 1) 0 + 1);
+  total = c .total + 1;
+}
+
+unfoldable pub gathered : Gathered → List Row → Gathered
+gathered c [] = c
+gathered c (r ∷ rs) = gathered (put c r) rs
+
+-- the parent of each element has a smaller number
+abbrev pub Falling : List Element → Type 0
+Falling es = (i : ℕ) → getD es i documentNode .parent ≤ i
+
+pub record Sound (c : Gathered) : Type 0 where
+  pub elements-long : length (c .elements) ≡ elementLimit
+  pub times-long : length (c .times) ≡ elementLimit
+  pub times-most : (i : ℕ) → getD (c .times) i 0 ≤ c .total
+  pub total-most : c .total ≤ elementLimit
+  pub falling : Falling (c .elements)
+
+pub record GoodRow (limit : ℕ) (r : Row) : Type 0 where
+  pub positive : 1 ≤ r .number
+  pub most : r .number ≤ limit
+  pub falling : r .element .parent < r .number
+
+pub record Tabled (r : GatheredRead) (e : Read Gathered) : Type 0 where
+  pub sound : Sound (r .gathered)
+  pub right : beside (r .next) (r .gathered) ≡ e
+
+unfoldable pub ones : ℕ → List ℕ → Bool
+ones zero ts = true
+ones (suc n) ts = ones n ts && eqb (getD ts n 0) 1
+
+unfoldable pub listed : Document → List Element
+listed d = take (d .count) (d .elements)
+
+pub record Fallen (d : Document) : Type 0 where
+  pub long : length (d .elements) ≡ elementLimit
+  pub most : d .count ≤ elementLimit
+  pub falling : Falling (d .elements)

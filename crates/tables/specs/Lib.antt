@@ -1,0 +1,2 @@
+pub mod Edg
+pub mod Kept

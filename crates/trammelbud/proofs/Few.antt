@@ -1,0 +1,132 @@
+-- No reader accepts more than the limit: so every count fits its field.
+use Prim.Native.Nat.{ℕ, zero, suc, _+_, _≤_, _<_}
+use mathlib.Core.Path.{_≡_, refl, sym, ap, _∙_}
+use mathlib.Core.Bool.{Bool, true, false, _&&_}
+use mathlib.Core.List.{List, [], _∷_, _++_}
+use native.Mathlib.Omega.{arith}
+use lib.Dec.{eqb, ltb, leb}
+use lib.ListN.{length, length-append, length-take, replicate}
+use borrow.Author.Tests.{ltb-true, leb-true}
+use Rattle.meaning.specs.declared.Graph.{Graph}
+use Rattle.meaning.specs.declared.Element.{Element}
+use Rattle.meaning.specs.declared.Operation.{Operation}
+use Rattle.meaning.specs.declared.Reason.the-variants.{Bound, Code, Kind, Edge, Number}
+use Rattle.meaning.specs.Limits.{stepLimit}
+use Rattle.meaning.specs.Graphs.{childKind}
+use Rattle.meaning.specs.Documents.{node, documentNode}
+use Rattle.meaning.proofs.Tests.{and-right}
+use Rattle.fields.specs.Read.{Read, Reader, got, refused, bind, pick, give, judge, refuse, byte, word, header, end}
+use Rattle.fields.proofs.Formats.{refused-out, bind-out, judge-out}
+use Rattle.document.specs.Tre.{Open, pushed, opened, closed, token, tokens, nothingOpen, documentFile}
+use Rattle.tables.specs.Edg.{rowRead, rowsRead, tablesRead, placed, elementsOf, eachOnce, elementsJudged, rowsFile, whole, tablesFile}
+use Rattle.tables.specs.declared.Row.{Row}
+use Rattle.program.specs.Rel.{judged, stepRead, stepsRead, program, programFile}
+
+-- two readings that are one gave one value
+same-got : {A : Type 0} {a b : A} {m n : ℕ} → got a m ≡ got b n → a ≡ b
+same-got h = cc
+
+steps-length : (k s n : ℕ) (bs : List ℕ) (at : ℕ) {os : List Operation} {m : ℕ} → stepsRead k s n bs at ≡ got os m → length os ≡ n
+unfolding stepsRead
+steps-length k s zero bs at h = ap length (sym (same-got h))
+steps-length k s (suc n) bs at h =
+    let o = bind-out (stepRead k s bs at) _ h in
+    let os = bind-out (stepsRead k (suc s) n bs (o .1)) _ (o .3) in
+    ap length (sym (same-got (os .3))) ∙ ap suc (steps-length k (suc s) n bs (o .1) (os .2))
+
+pub few-steps : (k : ℕ) (bs : List ℕ) {os : List Operation} {m : ℕ} → programFile k bs 0 ≡ got os m → length os ≤ stepLimit
+unfolding programFile program judged
+few-steps k bs h =
+    let p = bind-out (program k bs 0) _ h in
+    let e = bind-out (end bs (p .1)) _ (p .3) in
+    let same = same-got (e .3) in
+    let i = bind-out (header 0x52 0x45 0x4C bs 0) _ (p .2) in
+    let n = bind-out (judged byte (λ n. leb 1 n && leb n stepLimit) Bound bs (i .1)) _ (i .3) in
+    let b = bind-out (byte bs (i .1)) _ (n .2) in
+    let j = bind-out (judge (leb 1 (b .0) && leb (b .0) stepLimit) Bound bs (b .1)) _ (b .3) in
+    let t = judge-out (leb 1 (b .0) && leb (b .0) stepLimit) Bound bs (b .1) (j .2) in
+    let few : b .0 ≤ stepLimit = leb-true (b .0) stepLimit (and-right (leb 1 (b .0)) _ (t .0)) in
+    omega (arith, few, same-got (j .3), steps-length k 0 (n .0) bs (n .1) (n .3), ap length same)
+
+module _ (limit : ℕ) (g : Graph) (s : List ℕ) where
+  opened-few : (o : Open) (at : ℕ) {o′ : Open} {n : ℕ} → opened limit g o s at ≡ got o′ n → length (o′ .elements) ≤ limit
+  unfolding opened pushed
+  opened-few o at h =
+      let b = bind-out (judge (ltb (length (o .elements)) limit) Bound s at) _ h in
+      let t = bind-out (byte s (b .1)) _ (b .3) in
+      let k = bind-out (judge (ltb (t .0) (g .k)) Kind s (t .1)) _ (t .3) in
+      let e = bind-out (judge (childKind g (node (o .elements) (o .inner) .kind) (t .0)) Edge s (k .1)) _ (k .3) in
+      let x = bind-out (word s (e .1)) _ (e .3) in
+      let room : length (o .elements) < limit = ltb-true _ limit (judge-out (ltb (length (o .elements)) limit) Bound s at (b .2) .0) in
+      omega (arith, ap (λ o. length (o .elements)) (same-got (x .3)), length-append (o .elements) (record { parent = o .inner; kind = t .0; text = x .0 } ∷ []))
+
+  closed-few : (o : Open) (at : ℕ) {o′ : Open} {n : ℕ} → length (o .elements) ≤ limit → closed o s at ≡ got o′ n → length (o′ .elements) ≤ limit
+  unfolding closed
+  closed-few o at few h =
+      let b = bind-out (judge (ltb 0 (length (o .elements))) Edge s at) _ h in
+      rw (ap (λ o. o .elements) (same-got (b .3))) at few
+
+  token-few : (o : Open) (at : ℕ) {o′ : Open} {n : ℕ} → length (o .elements) ≤ limit → token limit g o s at ≡ got o′ n → length (o′ .elements) ≤ limit
+  unfolding token
+  token-few o at few h =
+      let c = bind-out (byte s at) _ h in
+      by-code (eqb (c .0) 0x01) (eqb (c .0) 0x02) (c .1) (c .3)
+    where
+      by-code : (a b : Bool) (at : ℕ) {o′ : Open} {n : ℕ} → pick a (opened limit g o) (pick b (closed o) (refuse Code)) s at ≡ got o′ n → length (o′ .elements) ≤ limit
+      by-code true b at h = opened-few o at h
+      by-code false true at h = closed-few o at few h
+      by-code false false at h = refused-out h
+
+  tokens-few : (f : ℕ) (o : Open) (at : ℕ) {es : List Element} {n : ℕ} → length (o .elements) ≤ limit → tokens f limit g o s at ≡ got es n → length es ≤ limit
+  unfolding tokens
+  tokens-few zero o at few h = refused-out h
+  tokens-few (suc f) o at few h =
+      let t = bind-out (token limit g o s at) _ h in
+      let later = token-few o at few (t .2) in
+      by-inner (eqb (t .0 .inner) 0) (t .0) (t .1) later (tokens-few f (t .0) (t .1) later) (t .3)
+    where
+      by-inner : (b : Bool) (o′ : Open) (at : ℕ) {es : List Element} {n : ℕ} → length (o′ .elements) ≤ limit
+          → (tokens f limit g o′ s at ≡ got es n → length es ≤ limit) → pick b (give (o′ .elements)) (tokens f limit g o′) s at ≡ got es n → length es ≤ limit
+      by-inner true o′ at few more h = rw (same-got h) at few
+      by-inner false o′ at few more h = more h
+
+  pub few-elements : {es : List Element} {n : ℕ} → documentFile limit g s 0 ≡ got es n → length es ≤ limit
+  unfolding documentFile
+  few-elements h =
+      let i = bind-out (header 0x54 0x52 0x45 s 0) _ h in
+      let t = bind-out (tokens (length s) limit g nothingOpen s (i .1)) _ (i .3) in
+      let e = bind-out (end s (t .1)) _ (t .3) in
+      rw (same-got (e .3)) at (tokens-few (length s) nothingOpen (i .1) (omega arith) (t .2))
+
+  rows-length : (t before n at : ℕ) {rs : List Row} {m : ℕ} → rowsRead limit t before n s at ≡ got rs m → length rs ≡ n
+  unfolding rowsRead
+  rows-length t before zero at h = ap length (sym (same-got h))
+  rows-length t before (suc n) at h =
+      let r = bind-out (rowRead limit t before s at) _ h in
+      let rs = bind-out (rowsRead limit t (r .0 .number) n s (r .1)) _ (r .3) in
+      ap length (sym (same-got (rs .3))) ∙ ap suc (rows-length t (r .0 .number) n (r .1) (rs .2))
+
+  tables-few : (t total n at : ℕ) {rs : List Row} {m : ℕ} → total ≤ limit → tablesRead limit t total n s at ≡ got rs m → total + length rs ≤ limit
+  unfolding tablesRead
+  tables-few t total zero at few h = omega (arith, ap length (sym (same-got h)))
+  tables-few t total (suc n) at few h =
+      let c = bind-out (byte s at) _ h in
+      let j = bind-out (judge (leb (total + c .0) limit) Bound s (c .1)) _ (c .3) in
+      let rs = bind-out (rowsRead limit t 0 (c .0) s (j .1)) _ (j .3) in
+      let ts = bind-out (tablesRead limit (suc t) (total + c .0) n s (rs .1)) _ (rs .3) in
+      let room : total + c .0 ≤ limit = leb-true (total + c .0) limit (judge-out (leb (total + c .0) limit) Bound s (c .1) (j .2) .0) in
+      omega (arith, ap length (same-got (ts .3)), length-append (rs .0) (ts .0), rows-length t 0 (c .0) (j .1) (rs .2), tables-few (suc t) (total + c .0) n (rs .1) room (ts .2))
+
+  pub few-placed : {es : List Element} {n : ℕ} → tablesFile limit g s 0 ≡ got es n → length es ≤ limit
+  unfolding tablesFile rowsFile whole elementsOf
+  few-placed h =
+      let f = bind-out (rowsFile limit g s 0) _ h in
+      let e = bind-out (end s (f .1)) _ (f .3) in
+      let o = bind-out (judge (eachOnce (length (f .0)) (f .0)) Number s (e .1)) _ (e .3) in
+      let j = bind-out (elementsJudged g (elementsOf limit (f .0)) 1 (length (f .0)) s (o .1)) _ (o .3) in
+      let i = bind-out (header 0x45 0x44 0x47 s 0) _ (f .2) in
+      let k = bind-out (byte s (i .1)) _ (i .3) in
+      let b = bind-out (judge (eqb (k .0) (g .k)) Bound s (k .1)) _ (k .3) in
+      let r = bind-out (tablesRead limit 0 0 (k .0) s (b .1)) _ (b .3) in
+      let l = bind-out (judge (leb 1 (length (r .0))) Bound s (r .1)) _ (r .3) in
+      omega (arith, ap length (same-got (j .3)), length-take (length (f .0)) (placed (replicate limit documentNode) (f .0)), ap length (same-got (l .3)), tables-few 0 0 (k .0) (b .1) (omega arith) (r .2))
