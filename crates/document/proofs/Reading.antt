@@ -1,38 +1,33 @@
 -- The loop over tokens: what reading goes on from, and one law for each turn and return.
-use Prim.Native.Nat.{ℕ, zero, suc, _+_, _*_, _-_, _≤_, _<_}
-use mathlib.Core.Bool.{Bool, true, false}
+use Prim.Native.Nat.{ℕ, zero, suc, _-_, _≤_, _<_}
 use mathlib.Core.List.{List, []}
 use mathlib.Core.Path.{_≡_, refl, sym, ap, _∙_}
-use native.Mathlib.Nat.{le-trans}
 use native.Mathlib.Omega.{arith}
-use lib.Dec.{eqb, ltb, leb}
-use lib.ListN.{length, getD, replicate}
-use lib.Seq.{take-at}
+use lib.ListN.{length, replicate}
 use borrow.Author.Needs.{needs}
-use borrow.Author.Tests.{ltb-true, le-ltb, eq-eqb, ne-eqb}
+use borrow.Author.Tests.{le-ltb, eq-eqb, ne-eqb}
 use Rattle.meaning.specs.declared.Graph.{Graph}
 use Rattle.meaning.specs.declared.Element.{Element}
 use Rattle.meaning.specs.declared.Document.{Document}
 use Rattle.meaning.specs.declared.DocumentRead.{DocumentRead}
 use Rattle.meaning.specs.declared.Outcome.{Outcome}
 use Rattle.meaning.specs.declared.Refusal.{Refusal}
-use Rattle.meaning.specs.declared.Reason.{Reason}
-use Rattle.meaning.specs.declared.Reason.the-variants.{Ended, Bound, Code, Kind, Edge}
+use Rattle.meaning.specs.declared.Reason.the-variants.{Ended}
 use Rattle.meaning.specs.Limits.{elementLimit}
-use Rattle.meaning.specs.Documents.{documentNode, node}
-use Rattle.meaning.specs.Graphs.{childKind}
+use Rattle.meaning.specs.Documents.{documentNode}
 use Rattle.meaning.specs.Records.{documentOf}
+use Rattle.meaning.proofs.Records.{document-holds}
 use Rattle.fields.specs.declared.Cursor.{Cursor}
 use Rattle.fields.specs.declared.Field.{Field}
 use Rattle.fields.specs.declared.Field.the-variants.{Got, Refused}
-use Rattle.fields.specs.Read.{Read, Reader, got, refused, bind, pick, _>>=_, _>>_, give, refuse, judge, readOf, passed, byte, word, header, end}
+use Rattle.fields.specs.Read.{Read, got, refused, bind, _>>=_, _>>_, give, readOf, passed, byte, header, end}
 use Rattle.fields.specs.Outcomes.{outcomeOf, documentRead}
 use Rattle.fields.proofs.Laws.{taken-passed, handed-passed}
-use Rattle.fields.proofs.Formats.{bind-out, pick-out, refused-out}
 use Rattle.document.specs.declared.Standing.{Standing}
 use Rattle.document.specs.declared.Turn.{Turn}
-use Rattle.document.specs.Tre.{Open, nothingOpen, pushed, opened, closed, token, tokens, documentFile}
-use Rattle.document.specs.States.{standingOf, openIn, Kept, nextOf, turnOf}
+use Rattle.document.specs.Tre.{Open, nothingOpen, token, tokens, document, documentFile}
+use Rattle.document.proofs.Bounds.{token-moves}
+use Rattle.document.specs.States.{standingOf, openIn, Kept, nextOf, turnOf, awayOf}
 
 pub outcome-refused : {x : Field} {r : Refusal} → x ≡ Refused r → Outcome.Refused r ≡ outcomeOf (readOf x)
 outcome-refused q = rw q
@@ -42,12 +37,13 @@ unfolding documentOf
 blank-document = refl
 
 pub turned-away : {d : Document} {u : Outcome} (x : Field) → u ≡ outcomeOf (readOf x) → d ≡ documentOf []
-    → _≡_ {A = DocumentRead} (record { outcome = u; document = d }) (record { outcome = outcomeOf (readOf x); document = documentOf [] })
+    → _≡_ {A = DocumentRead} (record { outcome = u; document = d }) (awayOf x)
+unfolding awayOf
 turned-away x p q = rw (p, q)
 
 open-standing : (o : Open) → openIn (standingOf o) ≡ o
-unfolding openIn standingOf documentOf
-open-standing o = ap (λ l. record { elements = l; inner = o .inner }) (take-at (o .elements) (replicate (elementLimit - length (o .elements)) documentNode) (length (o .elements)) refl)
+unfolding openIn standingOf
+open-standing o = ap (λ l. record { elements = l; inner = o .inner }) (document-holds (o .elements))
 
 kept-standing : {st : Standing} (o : Open) → st ≡ standingOf o → Kept st
 kept-standing o h = h ∙ ap standingOf (sym (ap openIn h ∙ open-standing o))
@@ -71,78 +67,7 @@ module _ (o : Open) where
   turn-refused (got p n) {r = r} h q = let i : Got 0 (record { at = n }) ≡ Refused r = sym (ap (λ t. t .next) h) ∙ q in cc
   turn-refused (refused r′) {r = r} h q = let i : Refused r′ ≡ Refused r = sym (ap (λ t. t .next) h) ∙ q in cc
 
--- Reading never goes back, and a token takes a byte.
-record Forward {A : Type 0} (m : Reader A) : Type 0 where
-  forward : {s : List ℕ} {at n : ℕ} {x : A} → m s at ≡ got x n → at ≤ n
-
-module _ {A : Type 0} where
-  forward-give : (x : A) → Forward (give x)
-  forward-give x = record { forward = λ {at = at} {n} h. let e : at ≡ n = cc in omega arith }
-
-  forward-refuse : (r : Reason) → Forward {A = A} (refuse r)
-  forward-refuse r = record { forward = λ h. refused-out h }
-
-  forward-pick : (b : Bool) {m n : Reader A} → Forward m → Forward n → Forward (pick b m n)
-  forward-pick true p q = p
-  forward-pick false p q = q
-
-  forward-bind : {B : Type 0} {m : Reader B} {f : B → Reader A} → Forward m → ((b : B) → Forward (f b)) → Forward (m >>= f)
-  forward-bind {m = m} {f} p q =
-      record {
-        forward = λ {s} {at} h.
-            let (b, k, i, j) = bind-out (m s at) (λ a at′. f a s at′) h in
-            le-trans (p .forward i) (q b .forward j);
-      }
-
-forward-judge : (b : Bool) (r : Reason) → Forward (judge b r)
-forward-judge b r = forward-pick b (forward-give tt) (forward-refuse r)
-
-byte-moves : (s : List ℕ) (at : ℕ) {v n : ℕ} → byte s at ≡ got v n → (at < length s) × (at < n)
-unfolding byte
-byte-moves s at {n = n} h =
-    let (t, i) = pick-out (ltb at (length s)) (got (getD s at 0) (at + 1)) (record { reason = Ended }) h in
-    let e : at + 1 ≡ n = cc in
-    (ltb-true at (length s) t, omega arith)
-
-forward-byte : Forward byte
-forward-byte = record { forward = λ {s} {at} h. let (_, l) = byte-moves s at h in omega arith }
-
-forward-word : Forward word
-unfolding word
-forward-word =
-    record {
-      forward = λ {s} {at} {n} h.
-          let (t, i) = pick-out (leb 2 (length s - at)) (got (getD s at 0 * 256 + getD s (at + 1) 0) (at + 2)) (record { reason = Ended }) h in
-          let e : at + 2 ≡ n = cc in
-          omega arith;
-    }
-
-module _ (limit : ℕ) (g : Graph) (o : Open) where
-  forward-opened : Forward (opened limit g o)
-  unfolding opened
-  forward-opened =
-      forward-bind (forward-judge (ltb (length (o .elements)) limit) Bound) λ _.
-      forward-bind forward-byte λ t.
-      forward-bind (forward-judge (ltb t (g .k)) Kind) λ _.
-      forward-bind (forward-judge (childKind g (node (o .elements) (o .inner) .kind) t) Edge) λ _.
-      forward-bind forward-word λ x.
-      forward-give (pushed o t x)
-
-  forward-closed : Forward (closed o)
-  unfolding closed
-  forward-closed =
-      forward-bind (forward-judge (ltb 0 (length (o .elements))) Edge) λ _.
-      forward-give (record { elements = o .elements; inner = node (o .elements) (o .inner) .parent })
-
-  token-moves : (s : List ℕ) (at : ℕ) {p : Open} {n : ℕ} → token limit g o s at ≡ got p n → length s - n < length s - at
-  unfolding token
-  token-moves s at h =
-      let (code, k, i, j) = bind-out (byte s at) _ h in
-      let (inside, l) = byte-moves s at i in
-      let m = forward-pick (eqb code 0x01) forward-opened (forward-pick (eqb code 0x02) forward-closed (forward-refuse Code)) .forward j in
-      omega arith
-
--- The document is what the tokens from here on come to, with the end of the file; so many tokens are not asked for.
+-- What is to be read is what the tokens from here on come to, and the end of the file.
 pub record Reaches (w : Read (List Element)) (g : Graph) (s : List ℕ) (st : Standing) (at : ℕ) : Type 0 where
   pub kept : Kept st
   pub fuel : ℕ
@@ -154,20 +79,21 @@ accepted-read : {w : Read (List Element)} {es : List Element} {n : ℕ} {d : Doc
 accepted-read q p = rw (p, q)
 
 refused-read : {w : Read (List Element)} {x : Field} {r : Refusal} {a : DocumentRead} → x ≡ Refused r
-    → a ≡ record { outcome = outcomeOf (readOf x); document = documentOf [] } → w ≡ refused r → a ≡ documentRead w
+    → a ≡ awayOf x → w ≡ refused r → a ≡ documentRead w
+unfolding awayOf
 refused-read q e p = e ∙ rw (p, q)
 
 module _ (g : Graph) (s : List ℕ) {b : Cursor} (z : b .at ≡ 0) {x : Field} (p : readOf x ≡ passed (header 0x54 0x52 0x45 s (b .at))) where
-  pub read-headless : {r : Refusal} {a : DocumentRead} → x ≡ Refused r → a ≡ record { outcome = outcomeOf (readOf x); document = documentOf [] }
+  pub read-headless : {r : Refusal} {a : DocumentRead} → x ≡ Refused r → a ≡ awayOf x
       → a ≡ documentRead (documentFile elementLimit g s 0)
-  unfolding documentFile
+  unfolding documentFile document
   read-headless q e =
       let h : header 0x54 0x52 0x45 s 0 ≡ refused _ = handed-passed (header 0x54 0x52 0x45 s 0) (rw z at p) q in
       refused-read {w = documentFile elementLimit g s 0} q e (simp h)
 
   pub read-starts : {v : ℕ} {c : Cursor} {d : Document} → x ≡ Got v c → d ≡ documentOf []
       → Reaches (documentFile elementLimit g s 0) g s (record { document = d; inner = 0 }) (c .at)
-  unfolding documentFile standingOf
+  unfolding documentFile document standingOf
   read-starts {c = c} {d} q e =
       let h : header 0x54 0x52 0x45 s 0 ≡ got tt (c .at) = taken-passed (header 0x54 0x52 0x45 s 0) (rw z at p) q in
       let st : _≡_ {A = Standing} (record { document = d; inner = 0 }) (standingOf nothingOpen) = rw e in
@@ -202,7 +128,7 @@ module _ (g : Graph) (o : Open) (s : List ℕ) (at : ℕ) where
 
 module _ {w : Read (List Element)} (g : Graph) (s : List ℕ) {st : Standing} {at : ℕ} (inv : Reaches w g s st at)
     {turn : Turn} (p : turn ≡ turnOf (openIn st) (token elementLimit g (openIn st) s at)) where
-  pub read-refused : {r : Refusal} {a : DocumentRead} → turn .next ≡ Refused r → a ≡ record { outcome = outcomeOf (readOf (turn .next)); document = documentOf [] }
+  pub read-refused : {r : Refusal} {a : DocumentRead} → turn .next ≡ Refused r → a ≡ awayOf (turn .next)
       → a ≡ documentRead w
   read-refused q e =
       refused-read q e (inv .same ∙ simp (tokens-refused g (openIn st) s at (inv .fuel) (inv .enough) (turn-refused (openIn st) _ p q)))
@@ -232,7 +158,7 @@ module _ {w : Read (List Element)} (g : Graph) (s : List ℕ) {st : Standing} {a
           (o, inv .same ∙ simp (tokens-last g (openIn st) s at o i (inv .fuel) (inv .enough) (sym (ap (λ x. x .inner) h) ∙ z)), ap (λ x. x .document) h)
 
       module _ {y : Field} (e : readOf y ≡ passed (end s (c .at))) where
-        pub read-extra : {r : Refusal} {a : DocumentRead} → y ≡ Refused r → a ≡ record { outcome = outcomeOf (readOf y); document = documentOf [] } → a ≡ documentRead w
+        pub read-extra : {r : Refusal} {a : DocumentRead} → y ≡ Refused r → a ≡ awayOf y → a ≡ documentRead w
         read-extra i j =
             let (o, h, _) = closed-whole in
             refused-read i j (h ∙ simp (handed-passed (end s (c .at)) e i))

@@ -28,7 +28,7 @@ use Rattle.fields.specs.Read.{Read, refused, judge, readOf, byte, word}
 use Rattle.fields.proofs.Laws.{taken, handed}
 use Rattle.document.specs.declared.Standing.{Standing}
 use Rattle.document.specs.declared.Turn.{Turn}
-use Rattle.document.specs.Tre.{Open, pushed, opened, closed, token}
+use Rattle.document.specs.Tre.{Open, pushed, popped, opened, closed, token}
 use Rattle.document.specs.States.{standingOf, nextOf, turnOf}
 
 -- within a list it does not matter what stands past its end
@@ -173,7 +173,7 @@ module _ (o : Open) {st : Standing} (h : st ≡ standingOf o) where
 
     pub closed-got : {e : Element} → (st .document .count ≡ 0 → ⊥) → e ≡ node (st .document .elements) (st .inner)
         → turn (record { document = st .document; inner = e .parent }) (Got 0 (record { at = at })) ≡ turnOf o (closed o [] at)
-    unfolding closed turnOf nextOf standingOf
+    unfolding closed popped turnOf nextOf standingOf
     closed-got n q = simp (lt-ltb 0 (length (o .elements)) (omega (arith, count-is)), q ∙ node-is, document-is)
 
   module _ (g : Graph) (s : List ℕ) (at : ℕ) {x : Field} (p : readOf x ≡ byte s at) where

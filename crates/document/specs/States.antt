@@ -1,22 +1,25 @@
 -- How the reader's records hold where reading stands: what its parts promise each other.
 use mathlib.Core.Path.{_≡_}
-use lib.ListN.{take}
-use Rattle.meaning.specs.Records.{documentOf}
+use mathlib.Core.List.{[]}
+use Rattle.meaning.specs.declared.DocumentRead.{DocumentRead}
+use Rattle.meaning.specs.Records.{documentOf, elementsIn}
 use Rattle.fields.specs.declared.Field.{Field}
 use Rattle.fields.specs.declared.Field.the-variants.{Got, Refused}
-use Rattle.fields.specs.Read.{Read, got, refused}
-use Rattle.fields.specs.Outcomes.{valueOr}
+use Rattle.fields.specs.Read.{Read, got, refused, readOf}
+use Rattle.fields.specs.Outcomes.{outcomeOf, valueOr}
 use Rattle.document.specs.declared.Standing.{Standing}
 use Rattle.document.specs.declared.Turn.{Turn}
 use Rattle.document.specs.Tre.{Open}
 
+-- as the code holds it, with blank places past the elements
 unfoldable pub standingOf : Open → Standing
 standingOf o = record { document = documentOf (o .elements); inner = o .inner }
 
+-- what the code holds
 unfoldable pub openIn : Standing → Open
-openIn st = record { elements = take (st .document .count) (st .document .elements); inner = st .inner }
+openIn st = record { elements = elementsIn (st .document); inner = st .inner }
 
--- the places past the elements are blank
+-- no more is held than the elements
 abbrev pub Kept : Standing → Type 0
 Kept st = st ≡ standingOf (openIn st)
 
@@ -27,3 +30,7 @@ nextOf (refused r) = Refused r
 -- after a token that was read from o on: where reading stands, which a refusal leaves, and where it goes on
 unfoldable pub turnOf : Open → Read Open → Turn
 turnOf o e = record { standing = standingOf (valueOr o e); next = nextOf e }
+
+-- how a field came out, beside the empty document
+unfoldable pub awayOf : Field → DocumentRead
+awayOf x = record { outcome = outcomeOf (readOf x); document = documentOf [] }

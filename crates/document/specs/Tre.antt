@@ -33,11 +33,15 @@ opened limit g o = do
   x ← word
   give (pushed o t x)
 
+-- the parent of the innermost is the innermost again
+unfoldable pub popped : Open → Open
+popped o = record { elements = o .elements; inner = node (o .elements) (o .inner) .parent }
+
 -- after 02, which no file begins with
 unfoldable pub closed : Open → Reader Open
 closed o = do
   judge (ltb 0 (length (o .elements))) Edge
-  give (record { elements = o .elements; inner = node (o .elements) (o .inner) .parent })
+  give (popped o)
 
 unfoldable pub token : ℕ → Graph → Open → Reader Open
 token limit g o = do
@@ -48,13 +52,17 @@ token limit g o = do
 unfoldable pub tokens : ℕ → ℕ → Graph → Open → Reader (List Element)
 tokens zero limit g o = refuse Ended
 tokens (suc f) limit g o = do
-  o′ ← token limit g o
-  pick (eqb (o′ .inner) 0) (give (o′ .elements)) (tokens f limit g o′)
+  p ← token limit g o
+  pick (eqb (p .inner) 0) (give (p .elements)) (tokens f limit g p)
+
+unfoldable pub document : ℕ → Graph → Reader (List Element)
+document limit g = do
+  header 0x54 0x52 0x45
+  λ s at. tokens (length s) limit g nothingOpen s at
 
 unfoldable pub documentFile : ℕ → Graph → Reader (List Element)
 documentFile limit g = do
-  header 0x54 0x52 0x45
-  es ← λ s at. tokens (length s) limit g nothingOpen s at
+  es ← document limit g
   end
   give es
 
@@ -63,12 +71,15 @@ unfoldable pub closes : ℕ → List Element → ℕ → ℕ → List ℕ
 closes zero es a b = []
 closes (suc f) es a b = pick (eqb a b) [] (byteOf 0x02 ++ closes f es (node es a .parent) b)
 
--- the tokens of the elements that follow element a, and the closes at the end
-unfoldable pub tokensOf : List Element → ℕ → List Element → List ℕ
-tokensOf es a [] = closes (length es) es a 0
-tokensOf es a (e ∷ rest) =
-    closes (length es) es a (e .parent) ++ byteOf 0x01 ++ byteOf (e .kind) ++ wordOf (e .text) ++ tokensOf es (suc a) rest
+-- the token that opens an element
+abbrev pub openOf : Element → List ℕ
+openOf e = byteOf 0x01 ++ byteOf (e .kind) ++ wordOf (e .text)
+
+-- the tokens of the n elements that follow element a, and the closes at the end
+unfoldable pub tokensOf : List Element → ℕ → ℕ → List ℕ
+tokensOf es a zero = closes (length es) es a 0
+tokensOf es a (suc n) = closes (length es) es a (node es (suc a) .parent) ++ (openOf (node es (suc a)) ++ tokensOf es (suc a) n)
 
 -- the file of a document
 unfoldable pub documentBytes : List Element → List ℕ
-documentBytes es = headerOf 0x54 0x52 0x45 ++ tokensOf es 0 es
+documentBytes es = headerOf 0x54 0x52 0x45 ++ tokensOf es 0 (length es)

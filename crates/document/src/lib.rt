@@ -10,7 +10,7 @@ ghost use Rattle.meaning.specs.Records.{documentOf};
 ghost use Rattle.fields.specs.Read.{readOf};
 ghost use Rattle.fields.specs.Outcomes.{outcomeOf, documentRead};
 ghost use Rattle.document.specs.Tre.{pushed, opened, closed, token, documentFile};
-ghost use Rattle.document.specs.States.{standingOf, openIn, Kept, turnOf};
+ghost use Rattle.document.specs.States.{standingOf, openIn, Kept, turnOf, awayOf};
 use fields::Cursor;
 use fields::Field;
 use meaning::Document;
@@ -20,6 +20,7 @@ use meaning::Graph;
 use meaning::Outcome;
 use meaning::Reason;
 
+// Elements of a document.
 const LIMIT: usize = 127;
 
 const DOCUMENT_NODE: Element = Element {
@@ -91,7 +92,7 @@ impl Standing {
     {
         let document = self.document;
         let count = document.count;
-        let number = count + 1;
+        let last = count as u8;
         let mut elements = document.elements;
         elements[count] = Element {
             parent: self.inner,
@@ -99,16 +100,16 @@ impl Standing {
             text,
         };
         let longer = Document {
-            count: number,
+            count: count + 1,
             elements,
         };
         Standing {
             document: longer,
-            inner: number as u8,
+            inner: last + 1,
         }
     }
 
-    // After 01.
+    // After 01: the count, the type, the edge or root, then the text.
     fn opened(self, s: &[u8], g: Graph, c: Cursor) -> Turn
         requires { ⌜ Kept self ⌝ }
         ensures { λ r. ⌜ r ≡ turnOf (openIn self) (opened elementLimit g (openIn self) (now (s .entry)) (c .at)) ⌝ }
@@ -184,7 +185,7 @@ fn outcome(field: Field) -> Outcome
 
 // A refused document is the empty one.
 fn turned_away(field: Field) -> DocumentRead
-    ensures { λ r. ⌜ r ≡ record { outcome = outcomeOf (readOf field); document = documentOf [] } ⌝ }
+    ensures { λ r. ⌜ r ≡ awayOf field ⌝ }
 {
     DocumentRead {
         outcome: outcome(field),
@@ -192,6 +193,7 @@ fn turned_away(field: Field) -> DocumentRead
     }
 }
 
+// The document of a file, which the graph judges; with no elements where it is refused.
 pub fn read(s: &[u8], g: Graph) -> DocumentRead
     ensures { λ r. ⌜ r ≡ documentRead (documentFile elementLimit g (now (s .entry)) 0) ⌝ }
 {

@@ -14,7 +14,8 @@ use Rattle.meaning.specs.Limits.{types, document}
 use Rattle.meaning.specs.Sets.{bit}
 use Rattle.meaning.specs.Graphs.{childKind}
 use Rattle.meaning.proofs.Tests.{fails}
-use Rattle.graph.proofs.Bits.{bit-shifted, bits-below, bit-none}
+use Rattle.meaning.proofs.Bits.{bit-shifted, bits-below}
+use Rattle.meaning.proofs.Sets.{bit-none}
 
 -- p is the place of a, and q that of b
 module _ (g : Graph) (a b : ℕ) {p : ℕ} (i : p ≡ a) where

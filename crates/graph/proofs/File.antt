@@ -18,7 +18,8 @@ use Rattle.meaning.proofs.Tests.{never, and-in, and-left, and-right}
 use Rattle.fields.specs.Read.{got}
 use Rattle.fields.proofs.Formats.{Bytes, Reads, Takes, reads-bind, reads-last, reads-give, reads-judge, reads-byte, reads-word, reads-header, reads-file, accepts-give, takes-bind, takes-judge, takes-byte, takes-word, takes-header, takes-file}
 use Rattle.graph.specs.Gra.{masks, typesRead, graph, graphFile, wordsOf, graphBytes}
-use Rattle.graph.proofs.Bits.{bits-below, below-bits, bit-none}
+use Rattle.meaning.proofs.Bits.{bits-below, below-bits}
+use Rattle.meaning.proofs.Sets.{bit-none}
 
 -- no mask has a bit of k or more
 abbrev Within : ℕ → List ℕ → Type 0

@@ -24,7 +24,7 @@ use Rattle.meaning.proofs.Sets.{any-in, any-out, bit-mask}
 use Rattle.meaning.proofs.Closure.{closure-sound}
 use Rattle.meaning.proofs.KindSets.{image-in, image-out}
 use Rattle.graph.proofs.Edges.{edge-of-document, edge-of-type, no-such-type}
-use Rattle.graph.proofs.Bits.{mask-cong, mask-none, mask-bits, mask-single, mask-or}
+use Rattle.meaning.proofs.Bits.{mask-cong, mask-none, mask-bits, mask-single, mask-or}
 
 pub single-none : (kind : ℕ) → kinds ≤ kind → 0 ≡ mask kinds (λ A. eqb A kind)
 single-none kind l = sym (mask-cong kinds _ (λ A. false) (λ A a. ne-eqb A kind (λ e. omega arith)) ∙ mask-none kinds)

@@ -1,4 +1,3 @@
-pub mod Bits
 pub mod Edges
 pub mod MaskReading
 pub mod Reading

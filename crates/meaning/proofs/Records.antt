@@ -12,7 +12,7 @@ pub document-holds : (es : List Element) → elementsIn (documentOf es) ≡ es
 unfolding elementsIn documentOf
 document-holds es = take-at es _ (length es) refl
 
-steps-length : (s : ℕ) (os : List Operation) → length (stepsFrom s os) ≡ length os
+pub steps-length : (s : ℕ) (os : List Operation) → length (stepsFrom s os) ≡ length os
 unfolding stepsFrom
 steps-length s [] = refl
 steps-length s (o ∷ os) = ap suc (steps-length (suc s) os)

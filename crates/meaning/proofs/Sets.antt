@@ -59,15 +59,15 @@ bit-mask (suc n) f zero l = low (f 0) (mask n (λ i. f (suc i)))
 bit-mask (suc n) f (suc i) l =
     rw (half (f 0) (mask n (λ i. f (suc i)))) (bit-mask n (λ i. f (suc i)) i (le-of-suc-le-suc l))
 
-bit-zero : (i : ℕ) → bit 0 i ≡ false
+pub bit-none : (i : ℕ) → bit 0 i ≡ false
 unfolding bit
-bit-zero zero = refl
-bit-zero (suc i) = bit-zero i
+bit-none zero = refl
+bit-none (suc i) = bit-none i
 
 -- a mask has no bit from n on
 pub mask-below : (n : ℕ) (f : ℕ → Bool) (i : ℕ) → bit (mask n f) i ≡ true → i < n
 unfolding bit mask
-mask-below zero f i h = never (sym (bit-zero i) ∙ h)
+mask-below zero f i h = never (sym (bit-none i) ∙ h)
 mask-below (suc n) f zero h = omega arith
 mask-below (suc n) f (suc i) h =
     suc-le-suc (mask-below n (λ i. f (suc i)) i (rw (half (f 0) (mask n (λ i. f (suc i)))) at h))

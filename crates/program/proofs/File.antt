@@ -17,7 +17,7 @@ use Rattle.meaning.proofs.Sets.{below-suc}
 use Rattle.fields.specs.Read.{Reader, got, give, _>>=_}
 use Rattle.fields.specs.Write.{byteOf}
 use Rattle.fields.proofs.Formats.{Bytes, Reads, Accepts, Takes, reads-bind, reads-last, reads-give, reads-judge, reads-byte, reads-word, reads-header, reads-file, accepts-give, takes-bind, takes-weaken, takes-judge, takes-byte, takes-word, takes-header, takes-file}
-use Rattle.graph.proofs.Bits.{bits-below, below-bits}
+use Rattle.meaning.proofs.Bits.{bits-below, below-bits}
 use Rattle.program.specs.declared.Layout.{Layout}
 use Rattle.program.specs.declared.Layout.the-variants.{Zeros, Single, Pair, Number, Mask}
 use Rattle.program.specs.Rel.{layoutOf, judged, byteUpTo, byteBelow, unused, readX, readY, operationOf, stepRead, stepsRead, program, programFile, laid, coded, stepBytes, stepsBytes, programBytes}

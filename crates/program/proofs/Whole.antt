@@ -20,6 +20,7 @@ use Rattle.fields.specs.declared.Field.{Field}
 use Rattle.fields.specs.declared.Field.the-variants.{Got, Refused}
 use Rattle.fields.specs.Read.{Read, Reader, got, refused, bind, _>>=_, _>>_, give, readOf, passed, header, end}
 use Rattle.fields.proofs.Laws.{taken, handed, taken-passed, handed-passed}
+use Rattle.meaning.proofs.Records.{steps-length}
 use Rattle.program.specs.declared.ProgramRead.{ProgramRead}
 use Rattle.program.specs.declared.StepRead.{StepRead}
 use Rattle.program.specs.Rel.{byteUpTo, stepRead, stepsRead, ended, program, programFile}
@@ -55,11 +56,6 @@ steps-append n [] o = ap (λ (i : ℕ). record { number = i; operation = o } ∷
 steps-append n (p ∷ os) o =
     ap (λ l. record { number = n; operation = p } ∷ l)
     (steps-append (suc n) os o ∙ ap (λ (i : ℕ). stepsFrom (suc n) os ++ (record { number = i; operation = o } ∷ [])) (omega arith))
-
-steps-length : (n : ℕ) (os : List Operation) → length (stepsFrom n os) ≡ length os
-unfolding stepsFrom
-steps-length n [] = refl
-steps-length n (o ∷ os) = ap suc (steps-length (suc n) os)
 
 more-steps : (os : List Operation) (o : Operation) → length os < stepLimit → addedTo (programOf os) o ≡ programOf (os ++ (o ∷ []))
 unfolding programOf

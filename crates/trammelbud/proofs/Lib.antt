@@ -1,2 +1,3 @@
 pub mod Few
 pub mod Laws
+pub mod Determined

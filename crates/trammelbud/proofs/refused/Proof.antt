@@ -1,3 +1,4 @@
+-- The number is the reason's.
 use borrow.Author.Needs.{needs}
 use Rattle.trammelbud.proofs.Laws.{laws}
 use Rattle.trammelbud.proofs.refused.Statement.{statement}

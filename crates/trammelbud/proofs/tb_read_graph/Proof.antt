@@ -1,3 +1,4 @@
+-- A refusal ends the call; an accepted graph is counted by its types.
 use borrow.Author.Needs.{needs}
 use Rattle.trammelbud.proofs.Laws.{laws}
 use Rattle.trammelbud.proofs.tb_read_graph.Statement.{statement}

@@ -7,8 +7,7 @@ use native.Mathlib.Omega.{arith}
 use lib.Bits.{bitOr, or-block}
 use lib.Dec.{eqb, eqb·zero-suc, eqb·suc-zero, eqb·suc-suc}
 use borrow.Author.Tests.{eq-eqb, eqb-true, eqb-false}
 use Rattle.meaning.specs.Sets.{bit, mask}
-use Rattle.meaning.proofs.Tests.{fails}
 
 -- bit k is the lowest after a shift by k
 pub bit-shifted : (k m : ℕ) → eqb (m / 2 ^ k % 2) 1 ≡ bit m k
@@ -25,9 +24,6 @@ bits-below zero m l zero h = let e = eqb-true (m % 2) 1 h in absurd (omega arith
 bits-below zero m l (suc i) h = let p = bits-below zero (m / 2) (omega arith) i h in absurd (omega arith)
 bits-below (suc n) m l zero h = omega arith
 bits-below (suc n) m l (suc i) h = let p = bits-below n (m / 2) (omega arith) i h in omega arith
-
-pub bit-none : (i : ℕ) → bit 0 i ≡ false
-bit-none i = fails (bit 0 i) (λ h. omega (arith, bits-below 0 0 (omega arith) i h))
 
 -- a number with no bit is 0
 no-bits : (fuel m : ℕ) → m ≤ fuel → ((i : ℕ) → bit m i ≡ true → ⊥) → m ≡ 0

@@ -1,0 +1,71 @@
+-- The tokens of a file as steps from one standing to the next: the reader takes exactly these.
+use Prim.Native.Nat.{ℕ, zero, suc, _≤_, _<_}
+use mathlib.Core.Bool.{true}
+use mathlib.Core.List.{List, _++_, append-nil}
+use mathlib.Core.Path.{_≡_, refl}
+use native.Mathlib.Omega.{arith}
+use lib.Dec.{eqb, ltb}
+use lib.ListN.{length, length-append}
+use borrow.Author.Tests.{lt-ltb, eq-eqb, ne-eqb, ltb-true, eqb-true, eqb-false}
+use Rattle.meaning.specs.declared.Graph.{Graph}
+use Rattle.meaning.specs.declared.Element.{Element}
+use Rattle.meaning.specs.declared.Reason.the-variants.{Ended, Bound, Code, Kind, Edge}
+use Rattle.meaning.specs.Limits.{words}
+use Rattle.meaning.specs.Graphs.{childKind}
+use Rattle.meaning.specs.Documents.{node}
+use Rattle.fields.specs.Write.{byteOf, wordOf}
+use Rattle.fields.proofs.Formats.{Reads, Accepts, reads-bind, reads-last, reads-give, reads-judge, reads-byte, reads-word, accepts-bind, accepts-weaken, accepts-give, accepts-refuse, accepts-pick, takes-bind, takes-judge, takes-byte, takes-word}
+use Rattle.document.specs.Tre.{Open, pushed, popped, opened, closed, token, tokens}
+
+-- a token leads from one standing to the next
+pub data Token (limit : ℕ) (g : Graph) (o : Open) : Open → List ℕ → Type 0 where
+  opens : {t x : ℕ} → length (o .elements) < limit → t < g .k → childKind g (node (o .elements) (o .inner) .kind) t ≡ true → x < words
+      → Token limit g o (pushed o t x) (byteOf 0x01 ++ byteOf t ++ wordOf x)
+  shuts : 0 < length (o .elements) → Token limit g o (popped o) (byteOf 0x02)
+
+-- the tokens of es, from o on
+pub data Run (limit : ℕ) (g : Graph) (es : List Element) : Open → List ℕ → Type 0 where
+  last : {o p : Open} {e : List ℕ} → Token limit g o p e → p .inner ≡ 0 → p .elements ≡ es → Run limit g es o e
+  more : {o p : Open} {e b : List ℕ} → Token limit g o p e → (p .inner ≡ 0 → ⊥) → Run limit g es p b → Run limit g es o (e ++ b)
+
+module _ (limit : ℕ) (g : Graph) where
+  token-accepts : (o : Open) → Accepts (token limit g o) (λ p e. Token limit g o p e)
+  unfolding token opened closed
+  token-accepts o =
+      takes-bind takes-byte λ code _.
+      accepts-pick (eqb code 0x01)
+      (λ c. takes-bind (takes-judge (ltb (length (o .elements)) limit) Bound) λ _ few. takes-bind takes-byte λ t _.
+      takes-bind (takes-judge (ltb t (g .k)) Kind) λ _ typed. takes-bind (takes-judge (childKind g (node (o .elements) (o .inner) .kind) t) Edge) λ _ edge.
+      takes-bind takes-word λ x small.
+      accepts-give (rw (eqb-true code 0x01 c) (opens (ltb-true _ _ few) (ltb-true _ _ typed) edge small)))
+      (λ _. accepts-pick (eqb code 0x02)
+      (λ c. takes-bind (takes-judge (ltb 0 (length (o .elements))) Edge) λ _ some. accepts-give (rw (eqb-true code 0x02 c) (shuts (ltb-true _ _ some))))
+      (λ _. accepts-refuse Code))
+
+  token-reads : {o p : Open} {e : List ℕ} → Token limit g o p e → Reads (token limit g o) e p
+  unfolding token opened closed
+  token-reads {o} (opens {t} {x} few typed edge small) =
+      reads-bind _ (reads-byte 0x01) (reads-bind _ (reads-judge Bound (lt-ltb _ _ few)) (reads-bind _ (reads-byte t) (reads-bind _ (reads-judge Kind (lt-ltb _ _ typed))
+      (reads-bind _ (reads-judge Edge edge) (reads-last _ (reads-word x) (reads-give (pushed o t x)))))))
+  token-reads {o} (shuts some) = reads-bind _ (reads-byte 0x02) (reads-last _ (reads-judge Edge (lt-ltb _ _ some)) (reads-give (popped o)))
+
+  token-long : {o p : Open} {e : List ℕ} → Token limit g o p e → 0 < length e
+  token-long (opens few typed edge small) = omega arith
+  token-long (shuts some) = omega arith
+
+  pub tokens-accept : (f : ℕ) (o : Open) → Accepts (tokens f limit g o) (λ es b. Run limit g es o b)
+  unfolding tokens
+  tokens-accept zero o = accepts-refuse Ended
+  tokens-accept (suc f) o =
+      accepts-bind (token-accepts o) λ p e t.
+      accepts-pick (eqb (p .inner) 0)
+      (λ z. accepts-give (rw (append-nil e) (last t (eqb-true _ _ z) refl)))
+      (λ n. accepts-weaken (tokens-accept f p) (λ es b r. more t (eqb-false _ _ n) r))
+
+  pub tokens-read : (f : ℕ) {es : List Element} {o : Open} {b : List ℕ} → Run limit g es o b → length b ≤ f → Reads (tokens f limit g o) b es
+  unfolding tokens
+  tokens-read zero (last t z e) l = absurd (omega (arith, token-long t))
+  tokens-read zero (more {e = e} {b} t n r) l = absurd (omega (arith, token-long t, length-append e b))
+  tokens-read (suc f) (last {p = p} t z e) l = reads-last _ (token-reads t) (rw (eq-eqb (p .inner) 0 z, ← e) (reads-give (p .elements)))
+  tokens-read (suc f) (more {p = p} {e} {b} t n r) l =
+      reads-bind _ (token-reads t) (rw (ne-eqb (p .inner) 0 n) (tokens-read f r (omega (arith, token-long t, length-append e b))))
