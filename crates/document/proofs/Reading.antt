@@ -21,25 +21,13 @@ use Rattle.fields.specs.declared.Cursor.{Cursor}
 use Rattle.fields.specs.declared.Field.{Field}
 use Rattle.fields.specs.declared.Field.the-variants.{Got, Refused}
 use Rattle.fields.specs.Read.{Read, got, refused, bind, _>>=_, _>>_, give, readOf, passed, byte, header, end}
-use Rattle.fields.specs.Outcomes.{outcomeOf, documentRead}
+use Rattle.fields.specs.Outcomes.{outcomeOf, documentRead, awayOf}
 use Rattle.fields.proofs.Laws.{taken-passed, handed-passed}
 use Rattle.document.specs.declared.Standing.{Standing}
 use Rattle.document.specs.declared.Turn.{Turn}
 use Rattle.document.specs.Tre.{Open, nothingOpen, token, tokens, document, documentFile}
 use Rattle.document.proofs.Bounds.{token-moves}
-use Rattle.document.specs.States.{standingOf, openIn, Kept, nextOf, turnOf, awayOf}
-
-pub outcome-refused : {x : Field} {r : Refusal} → x ≡ Refused r → Outcome.Refused r ≡ outcomeOf (readOf x)
-outcome-refused q = rw q
-
-pub blank-document : _≡_ {A = Document} (record { count = 0; elements = replicate elementLimit documentNode }) (documentOf [])
-unfolding documentOf
-blank-document = refl
-
-pub turned-away : {d : Document} {u : Outcome} (x : Field) → u ≡ outcomeOf (readOf x) → d ≡ documentOf []
-    → _≡_ {A = DocumentRead} (record { outcome = u; document = d }) (awayOf x)
-unfolding awayOf
-turned-away x p q = rw (p, q)
+use Rattle.document.specs.States.{standingOf, openIn, Kept, nextOf, turnOf}
 
 open-standing : (o : Open) → openIn (standingOf o) ≡ o
 unfolding openIn standingOf
@@ -80,7 +68,6 @@ accepted-read q p = rw (p, q)
 
 refused-read : {w : Read (List Element)} {x : Field} {r : Refusal} {a : DocumentRead} → x ≡ Refused r
     → a ≡ awayOf x → w ≡ refused r → a ≡ documentRead w
-unfolding awayOf
 refused-read q e p = e ∙ rw (p, q)
 
 module _ (g : Graph) (s : List ℕ) {b : Cursor} (z : b .at ≡ 0) {x : Field} (p : readOf x ≡ passed (header 0x54 0x52 0x45 s (b .at))) where
@@ -169,9 +156,6 @@ module _ {w : Read (List Element)} (g : Graph) (s : List ℕ) {st : Standing} {a
             accepted-read k (h ∙ ap (λ r. bind r (λ _ at′. got (o .elements) at′)) (taken-passed (end s (c .at)) e i))
 
 pub ruleset laws = (
-  outcome-refused,
-  blank-document,
-  turned-away,
   read-headless,
   read-starts,
   read-refused,

@@ -30,7 +30,3 @@ nextOf (refused r) = Refused r
 -- after a token that was read from o on: where reading stands, which a refusal leaves, and where it goes on
 unfoldable pub turnOf : Open → Read Open → Turn
 turnOf o e = record { standing = standingOf (valueOr o e); next = nextOf e }
-
--- how a field came out, beside the empty document
-unfoldable pub awayOf : Field → DocumentRead
-awayOf x = record { outcome = outcomeOf (readOf x); document = documentOf [] }

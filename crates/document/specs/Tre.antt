@@ -8,7 +8,7 @@ use Rattle.meaning.specs.declared.Element.{Element}
 use Rattle.meaning.specs.declared.Reason.the-variants.{Ended, Bound, Code, Kind, Edge}
 use Rattle.meaning.specs.Graphs.{childKind}
 use Rattle.meaning.specs.Documents.{node}
-use Rattle.fields.specs.Read.{Reader, _>>=_, _>>_, give, refuse, judge, pick, byte, word, header, end}
+use Rattle.fields.specs.Read.{Reader, _>>=_, _>>_, give, refuse, judge, pick, byte, word, header, ended}
 use Rattle.fields.specs.Write.{byteOf, wordOf, headerOf}
 
 -- the elements opened so far, and the innermost that is open: 0 before the first, and again when element 1 is closed
@@ -61,10 +61,7 @@ document limit g = do
   λ s at. tokens (length s) limit g nothingOpen s at
 
 unfoldable pub documentFile : ℕ → Graph → Reader (List Element)
-documentFile limit g = do
-  es ← document limit g
-  end
-  give es
+documentFile limit g = ended (document limit g)
 
 -- the closes from element a up to its ancestor b, which stays open
 unfoldable pub closes : ℕ → List Element → ℕ → ℕ → List ℕ

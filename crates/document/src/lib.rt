@@ -10,9 +10,12 @@ ghost use Rattle.meaning.specs.Records.{documentOf};
 ghost use Rattle.fields.specs.Read.{readOf};
 ghost use Rattle.fields.specs.Outcomes.{outcomeOf, documentRead};
 ghost use Rattle.document.specs.Tre.{pushed, opened, closed, token, documentFile};
-ghost use Rattle.document.specs.States.{standingOf, openIn, Kept, turnOf, awayOf};
+ghost use Rattle.document.specs.States.{standingOf, openIn, Kept, turnOf};
 use fields::Cursor;
+use fields::DOCUMENT_NODE;
 use fields::Field;
+use fields::blank;
+use fields::turned_away;
 use meaning::Document;
 use meaning::DocumentRead;
 use meaning::Element;
@@ -22,21 +25,6 @@ use meaning::Reason;
 
 // Elements of a document.
 const LIMIT: usize = 127;
-
-const DOCUMENT_NODE: Element = Element {
-    parent: 0,
-    kind: 16,
-    text: 0,
-};
-
-fn blank() -> Document
-    ensures { λ r. ⌜ r ≡ documentOf [] ⌝ }
-{
-    Document {
-        count: 0,
-        elements: [DOCUMENT_NODE; LIMIT],
-    }
-}
 
 // Node v. Past the last element the places are blank, as the document node is.
 fn node_at(document: Document, v: u8) -> Element
@@ -174,26 +162,6 @@ impl Standing {
     }
 }
 
-fn outcome(field: Field) -> Outcome
-    ensures { λ r. ⌜ r ≡ outcomeOf (readOf field) ⌝ }
-{
-    match field {
-        Field::Got(_, _) => Outcome::Accepted,
-        Field::Refused(refusal) => Outcome::Refused(refusal),
-    }
-}
-
-// A refused document is the empty one.
-fn turned_away(field: Field) -> DocumentRead
-    ensures { λ r. ⌜ r ≡ awayOf field ⌝ }
-{
-    DocumentRead {
-        outcome: outcome(field),
-        document: blank(),
-    }
-}
-
-// The document of a file, which the graph judges; with no elements where it is refused.
 pub fn read(s: &[u8], g: Graph) -> DocumentRead
     ensures { λ r. ⌜ r ≡ documentRead (documentFile elementLimit g (now (s .entry)) 0) ⌝ }
 {

@@ -1,12 +1,20 @@
 -- What a field reader's answer says of the reading, and one law for each return of a field reader.
 use Prim.Native.Nat.{ℕ, _+_, _*_, _-_, _≤_, _<_}
-use mathlib.Core.List.{List}
-use mathlib.Core.Path.{_≡_, sym, ap, _∙_}
-use lib.ListN.{length, getD}
+use mathlib.Core.List.{List, []}
+use mathlib.Core.Path.{_≡_, refl, sym, ap, _∙_}
+use lib.ListN.{length, getD, replicate}
 use borrow.Author.Needs.{needs}
 use borrow.Author.Tests.{lt-ltb, le-ltb, le-leb, lt-leb, eq-eqb, ne-eqb}
 use Rattle.meaning.specs.declared.Reason.the-variants.{Ended, Mark, Version, Extra}
 use Rattle.meaning.specs.declared.Refusal.{Refusal}
+use Rattle.meaning.specs.declared.Outcome.{Outcome}
+use Rattle.meaning.specs.declared.Outcome.the-variants as outcome
+use Rattle.meaning.specs.declared.Document.{Document}
+use Rattle.meaning.specs.declared.DocumentRead.{DocumentRead}
+use Rattle.meaning.specs.Limits.{elementLimit}
+use Rattle.meaning.specs.Documents.{documentNode}
+use Rattle.meaning.specs.Records.{documentOf}
+use Rattle.fields.specs.Outcomes.{outcomeOf, awayOf}
 use Rattle.fields.specs.Read.{Read, got, refused, readOf, passed, byte, word, mark, header, end}
 use Rattle.fields.specs.declared.Cursor.{Cursor}
 use Rattle.fields.specs.declared.Field.{Field}
@@ -100,6 +108,17 @@ module _ (a b c : ℕ) (s : List ℕ) (at : ℕ) {x : Field} (p : readOf x ≡ p
       unfolding header
       header-got e = simp (taken-passed (mark a b c s at) p q, taken h k, eq-eqb _ _ e)
 
+pub outcome-refused : {x : Field} {r : Refusal} → x ≡ Refused r → outcome.Refused r ≡ outcomeOf (readOf x)
+outcome-refused q = rw q
+
+pub blank-document : _≡_ {A = Document} (record { count = 0; elements = replicate elementLimit documentNode }) (documentOf [])
+unfolding documentOf
+blank-document = refl
+
+pub empty-away : {d : Document} {u : Outcome} (x : Field) → u ≡ outcomeOf (readOf x) → d ≡ documentOf []
+    → _≡_ {A = DocumentRead} (record { outcome = u; document = d }) (awayOf x)
+empty-away x p q = rw (p, q)
+
 pub ruleset laws = (
   byte-ended,
   byte-got,
@@ -116,5 +135,8 @@ pub ruleset laws = (
   header-unversioned,
   header-other,
   header-got,
+  outcome-refused,
+  blank-document,
+  empty-away,
   needs,
 )

@@ -71,6 +71,13 @@ header a b c = do
 unfoldable pub end : Reader (Unit {0})
 end s at = judge (leb (length s) at) Extra s at
 
+-- what m reads, and then the end of the file
+abbrev pub ended : {A : Type 0} → Reader A → Reader A
+ended m = do
+  x ← m
+  end
+  give x
+
 -- what a field reader's answer says
 abbrev pub readOf : Field → Read ℕ
 readOf (Got v c) = got v (c .at)

@@ -2,7 +2,14 @@
 ghost use mathlib.Core.Path.{_≡_};
 ghost use Prim.Native.Nat.{_+_, _*_, _-_};
 ghost use lib.ListN.{length};
+ghost use mathlib.Core.List.{[]};
+ghost use Rattle.meaning.specs.Records.{documentOf};
+ghost use Rattle.fields.specs.Outcomes.{outcomeOf, awayOf};
 ghost use Rattle.fields.specs.Read.{readOf, passed, byte, word, mark, header, end};
+use meaning::Document;
+use meaning::DocumentRead;
+use meaning::Element;
+use meaning::Outcome;
 use meaning::Reason;
 use meaning::Refusal;
 
@@ -34,6 +41,43 @@ fn joined(high: u8, low: u8) -> u16
     ensures { λ r. ⌜ r ≡ high * 256 + low ⌝ }
 {
     wide(high) * 256 + wide(low)
+}
+
+// How reading came out, by what its last field answered.
+pub fn outcome(field: Field) -> Outcome
+    ensures { λ r. ⌜ r ≡ outcomeOf (readOf field) ⌝ }
+{
+    match field {
+        Field::Got(_, _) => Outcome::Accepted,
+        Field::Refused(refusal) => Outcome::Refused(refusal),
+    }
+}
+
+// The document node, which also stands for every element that there isn't.
+pub const DOCUMENT_NODE: Element = Element {
+    parent: 0,
+    kind: 16,
+    text: 0,
+};
+
+// A document with no elements.
+pub fn blank() -> Document
+    ensures { λ r. ⌜ r ≡ documentOf [] ⌝ }
+{
+    Document {
+        count: 0,
+        elements: [DOCUMENT_NODE; 127],
+    }
+}
+
+// A refused document is the empty one.
+pub fn turned_away(field: Field) -> DocumentRead
+    ensures { λ r. ⌜ r ≡ awayOf field ⌝ }
+{
+    DocumentRead {
+        outcome: outcome(field),
+        document: blank(),
+    }
 }
 
 impl Cursor {

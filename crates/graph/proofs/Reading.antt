@@ -16,12 +16,12 @@ use Rattle.meaning.specs.Limits.{types}
 use Rattle.fields.specs.declared.Cursor.{Cursor}
 use Rattle.fields.specs.declared.Field.{Field}
 use Rattle.fields.specs.declared.Field.the-variants.{Got, Refused}
-use Rattle.fields.specs.Read.{Read, Reader, got, refused, byte, header, end, readOf, passed}
+use Rattle.fields.specs.Read.{Read, Reader, got, refused, byte, header, end, readOf, passed, ended}
 use Rattle.fields.specs.Outcomes.{outcomeOf}
 use Rattle.fields.proofs.Laws.{taken, handed, taken-passed, handed-passed}
 use Rattle.graph.specs.declared.GraphRead.{GraphRead}
 use Rattle.graph.specs.declared.MasksRead.{MasksRead}
-use Rattle.graph.specs.Gra.{masks, typesRead, graph, ended, graphFile}
+use Rattle.graph.specs.Gra.{masks, typesRead, graph, graphFile}
 use Rattle.graph.specs.Answers.{noGraph, graphRead, masksRead}
 
 -- what is answered where a field turned the file away

@@ -7,7 +7,7 @@ use lib.ListN.{take, replicate}
 use Rattle.meaning.specs.declared.Graph.{Graph}
 use Rattle.meaning.specs.declared.Reason.the-variants.{Bound, Kind}
 use Rattle.meaning.specs.Limits.{types}
-use Rattle.fields.specs.Read.{Reader, _>>=_, _>>_, give, judge, byte, word, header, end}
+use Rattle.fields.specs.Read.{Reader, _>>=_, _>>_, give, judge, byte, word, header, ended}
 use Rattle.fields.specs.Write.{byteOf, wordOf, headerOf}
 
 -- n masks, each with no bit of k or more
@@ -33,13 +33,6 @@ graph = do
   k ← byte
   judge (leb 1 k && leb k types) Bound
   typesRead k
-
--- what m reads, and then the end
-abbrev pub ended : {A : Type 0} → Reader A → Reader A
-ended m = do
-  x ← m
-  end
-  give x
 
 unfoldable pub graphFile : Reader Graph
 graphFile = ended graph

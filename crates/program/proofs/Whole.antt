@@ -18,12 +18,12 @@ use Rattle.meaning.specs.Records.{blankStep, stepsFrom, programOf}
 use Rattle.fields.specs.declared.Cursor.{Cursor}
 use Rattle.fields.specs.declared.Field.{Field}
 use Rattle.fields.specs.declared.Field.the-variants.{Got, Refused}
-use Rattle.fields.specs.Read.{Read, Reader, got, refused, bind, _>>=_, _>>_, give, readOf, passed, header, end}
+use Rattle.fields.specs.Read.{Read, Reader, got, refused, bind, _>>=_, _>>_, give, readOf, passed, header, end, ended}
 use Rattle.fields.proofs.Laws.{taken, handed, taken-passed, handed-passed}
 use Rattle.meaning.proofs.Records.{steps-length}
 use Rattle.program.specs.declared.ProgramRead.{ProgramRead}
 use Rattle.program.specs.declared.StepRead.{StepRead}
-use Rattle.program.specs.Rel.{byteUpTo, stepRead, stepsRead, ended, program, programFile}
+use Rattle.program.specs.Rel.{byteUpTo, stepRead, stepsRead, program, programFile}
 use Rattle.program.specs.Answers.{stepAnswer, refusedBy, addedTo, programRead}
 use Rattle.program.proofs.Laws.{at-most}
 

@@ -9,7 +9,7 @@ use Rattle.meaning.specs.declared.Operation.the-variants.{Table, Itself, Text, 
 use Rattle.meaning.specs.declared.Reason.{Reason}
 use Rattle.meaning.specs.declared.Reason.the-variants.{Bound, Code, Kind, Operand, Extra}
 use Rattle.meaning.specs.Limits.{stepLimit}
-use Rattle.fields.specs.Read.{Reader, _>>=_, _>>_, give, judge, byte, word, header, end}
+use Rattle.fields.specs.Read.{Reader, _>>=_, _>>_, give, judge, byte, word, header, ended}
 use Rattle.fields.specs.Write.{byteOf, wordOf, headerOf}
 use Rattle.program.specs.declared.Layout.{Layout}
 use Rattle.program.specs.declared.Layout.the-variants.{Zeros, Single, Pair, Number, Mask}
@@ -90,13 +90,6 @@ program k = do
   header 0x52 0x45 0x4C
   n ← byteUpTo stepLimit Bound
   stepsRead k 0 n
-
--- what m reads, and then the end
-abbrev pub ended : {A : Type 0} → Reader A → Reader A
-ended m = do
-  x ← m
-  end
-  give x
 
 unfoldable pub programFile : ℕ → Reader (List Operation)
 programFile k = ended (program k)

@@ -1,43 +1,41 @@
 -- The whole: one law for each return and turn of the functions that judge numbers and elements.
-use Prim.Native.Nat.{ℕ, zero, suc, _+_, _-_, _≤_, _<_, min}
+use Prim.Native.Nat.{ℕ, zero, suc, _+_, _-_, _≤_, _<_}
 use mathlib.Core.Path.{_≡_, refl, sym, ap, _∙_}
 use mathlib.Core.Bool.{Bool, true, false, not, _&&_, _||_}
-use mathlib.Core.List.{List, [], _∷_}
-use native.Mathlib.Numerals.{add-one}
+use mathlib.Core.List.{List, []}
 use native.Mathlib.Omega.{arith}
-use lib.Dec.{eqb, leb, ltb}
+use native.Mathlib.Numerals.{add-one}
+use lib.Dec.{eqb}
 use lib.ListN.{length, getD, take, length-take, List·getD-eq-default}
 use lib.Seq.{getD-take}
 use borrow.Author.Needs.{needs}
-use borrow.Author.Tests.{lt-ltb, le-ltb, le-leb, eq-eqb, ne-eqb, eqb-true, eqb-false, not-true, not-false}
+use borrow.Author.Tests.{lt-ltb, le-ltb, le-leb, eq-eqb, ne-eqb, eqb-true, not-true, not-false}
 use Rattle.meaning.specs.declared.Graph.{Graph}
 use Rattle.meaning.specs.declared.Element.{Element}
 use Rattle.meaning.specs.declared.Document.{Document}
 use Rattle.meaning.specs.declared.Reason.the-variants.{Number, Edge}
 use Rattle.meaning.specs.declared.Refusal.{Refusal}
-use Rattle.meaning.specs.Limits.{elementLimit}
 use Rattle.meaning.specs.Graphs.{childKind}
-use Rattle.meaning.specs.Documents.{View, isElement, above, below, documentNode, node, view, parentRule, edgeRule}
+use Rattle.meaning.specs.Documents.{isElement, above, below, documentNode, node, view, parentRule, edgeRule}
 use Rattle.meaning.proofs.Tests.{and-in, and-left, and-right, fails}
-use Rattle.fields.specs.Read.{Read, got, refused, judge, readOf, passed}
+use Rattle.meaning.proofs.Sets.{below-suc}
+use Rattle.fields.specs.Read.{Read, got, judge, readOf, passed}
 use Rattle.fields.specs.declared.Cursor.{Cursor}
 use Rattle.fields.specs.declared.Field.{Field}
 use Rattle.fields.specs.declared.Field.the-variants.{Got, Refused}
 use Rattle.fields.proofs.Laws.{taken-passed, handed-passed}
 use Rattle.fields.proofs.Formats.{bind-out, judge-out}
 use Rattle.tables.specs.Edg.{elementJudged, elementsJudged}
-use Rattle.tables.specs.Kept.{ones, listed, Falling, Fallen}
+use Rattle.tables.specs.Kept.{ones, listed, Climbable}
+use Rattle.tables.proofs.Lists.{take-keeps, getD-there}
 
 -- each number below n came once
 module _ (ts : List ℕ) where
-  pub ones-out : (n : ℕ) → ones n ts ≡ true → (i : ℕ) → i < n → getD ts i 0 ≡ 1
+  ones-out : (n : ℕ) → ones n ts ≡ true → (i : ℕ) → i < n → getD ts i 0 ≡ 1
   unfolding ones
   ones-out zero h i l = absurd (omega arith)
-  ones-out (suc n) h i l = go (ones-out n (and-left (ones n ts) _ h) i) (eqb i n) refl
-    where
-      go : (i < n → getD ts i 0 ≡ 1) → (b : Bool) → eqb i n ≡ b → getD ts i 0 ≡ 1
-      go before true e = rw (eqb-true i n e) (eqb-true (getD ts n 0) 1 (and-right (ones n ts) _ h))
-      go before false e = before (let other = eqb-false i n e in omega arith)
+  ones-out (suc n) h i l =
+      below-suc (λ j. getD ts j 0 ≡ 1) i (eqb-true (getD ts n 0) 1 (and-right (ones n ts) _ h)) (ones-out n (and-left (ones n ts) _ h) i) l
 
   pub ones-none : ones 0 ts ≡ true
   unfolding ones
@@ -55,11 +53,6 @@ module _ (ts : List ℕ) where
 
 pub ruleset ones-laws = (ones-none, ones-lack, ones-more, ones-end, needs)
 
-getD-there : {A : Type 0} (l : List A) (i : ℕ) (x y : A) → i < length l → getD l i x ≡ getD l i y
-getD-there [] i x y h = absurd (omega arith)
-getD-there (a ∷ l) zero x y h = refl
-getD-there (a ∷ l) (suc i) x y h = getD-there l i x y (omega arith)
-
 -- node v of a record of elements, where n is v
 module _ (d : Document) where
   pub node-document : (v : ℕ) {n : ℕ} → n ≡ v → n ≡ 0 → documentNode ≡ node (listed d) v
@@ -72,37 +65,30 @@ module _ (d : Document) where
   node-past zero e l = refl
   node-past (suc i) e l = sym (List·getD-eq-default (take (d .count) (d .elements)) documentNode (omega (arith, length-take (d .count) (d .elements))))
 
-  pub node-there : Fallen d → (v : ℕ) {n : ℕ} (x : Element) → n ≡ v → (n ≡ 0 → ⊥) → n ≤ d .count → getD (d .elements) (n - 1) x ≡ node (listed d) v
+  pub node-there : Climbable d → (v : ℕ) {n : ℕ} (x : Element) → n ≡ v → (n ≡ 0 → ⊥) → n ≤ d .count → getD (d .elements) (n - 1) x ≡ node (listed d) v
   unfolding node listed
-  node-there fallen zero x e z l = absurd (z e)
-  node-there fallen (suc i) {n} x e z l =
+  node-there climbable zero x e z l = absurd (z e)
+  node-there climbable (suc i) {n} x e z l =
       let before : n - 1 ≡ i = omega arith in
-      let long = fallen .long in
-      let most = fallen .most in
+      let long = climbable .long in
+      let most = climbable .most in
       rw before (getD-there (d .elements) i x documentNode (omega arith) ∙ sym (getD-take (d .count) (d .elements) i documentNode (omega arith)))
 
 pub ruleset node-laws = (node-document, node-past, node-there, needs)
 
--- what holds at each place, and of what stands past the end, holds of the first n
-take-keeps : {A : Type 0} (P : ℕ → A → Type 0) (n : ℕ) (l : List A) (d : A) → ((j : ℕ) → P j (getD l j d)) → ((j : ℕ) → P j d) → (j : ℕ) → P j (getD (take n l) j d)
-take-keeps P zero l d h q j = q j
-take-keeps P (suc n) [] d h q j = q j
-take-keeps P (suc n) (x ∷ l) d h q zero = h zero
-take-keeps P (suc n) (x ∷ l) d h q (suc j) = take-keeps (λ k. P (suc k)) n l d (λ k. h (suc k)) (λ k. q (suc k)) j
-
-module _ (d : Document) (fallen : Fallen d) where
+module _ (d : Document) (climbable : Climbable d) where
   listed-long : length (listed d) ≡ d .count
   unfolding listed
-  listed-long = let long = fallen .long in let most = fallen .most in omega (arith, length-take (d .count) (d .elements))
+  listed-long = let long = climbable .long in let most = climbable .most in omega (arith, length-take (d .count) (d .elements))
 
   listed-fall : (v : ℕ) → 0 < v → node (listed d) v .parent < v
   unfolding node listed
   listed-fall zero h = absurd (omega arith)
-  listed-fall (suc i) h = omega (arith, take-keeps (λ j e. e .parent ≤ j) (d .count) (d .elements) documentNode (fallen .falling) (λ j. omega arith) i)
+  listed-fall (suc i) h = omega (arith, take-keeps (λ j e. e .parent ≤ j) (d .count) (d .elements) documentNode (climbable .falling) (λ j. omega arith) i)
 
-  is-element : (v : ℕ) → 0 < v → v ≤ d .count → isElement (view (listed d)) v ≡ true
-  unfolding isElement view
-  is-element v p l = and-in (le-leb v (length (listed d)) (omega (arith, listed-long))) (lt-ltb 0 v p)
+pub is-element : (es : List Element) (v : ℕ) → 0 < v → v ≤ length es → isElement (view es) v ≡ true
+unfolding isElement view
+is-element es v p l = and-in (le-leb v (length es) l) (lt-ltb 0 v p)
 
 and-false : (a : Bool) → a && false ≡ false
 and-false true = refl
@@ -115,7 +101,7 @@ pub record Climbing (d : Document) (b : Bool) (v at : ℕ) : Type 0 where
   pub enough : at ≤ left
   pub rest : b ≡ above (suc left) (view (listed d)) v at
 
-pub climb-start : (d : Document) (v w : ℕ) → Fallen d × (w ≤ d .count) → Climbing d (below (view (listed d)) v w) v w
+pub climb-start : (d : Document) (v w : ℕ) → Climbable d × (w ≤ d .count) → Climbing d (below (view (listed d)) v w) v w
 unfolding below view
 climb-start d v w h = record { inside = h .1; left = length (listed d); enough = omega (arith, listed-long d (h .0)); rest = refl }
 
@@ -124,16 +110,16 @@ module _ {d : Document} {b : Bool} {v at : ℕ} (c : Climbing d b v at) where
   unfolding above isElement
   climb-end h = sym (c .rest ∙ simp (le-ltb 0 at h, and-false))
 
-  module _ (fallen : Fallen d) (p : 0 < at) {x : Element} (e : x ≡ node (listed d) at) where
+  module _ (climbable : Climbable d) (p : 0 < at) {x : Element} (e : x ≡ node (listed d) at) where
     step-up : b ≡ eqb (x .parent) v || above (c .left) (view (listed d)) v (x .parent)
     unfolding above view
-    step-up = c .rest ∙ simp (is-element d fallen at p (c .inside), ← e)
+    step-up = let inside = c .inside in c .rest ∙ simp (is-element (listed d) at p (omega (arith, listed-long d climbable)), ← e)
 
     pub climb-found : x .parent ≡ v → true ≡ b
     climb-found q = sym (step-up ∙ simp (eq-eqb (x .parent) v q))
 
     pub climb-less : x .parent < at
-    climb-less = rw e (listed-fall d fallen at p)
+    climb-less = rw e (listed-fall d climbable at p)
 
     pub climb-again : (x .parent ≡ v → ⊥) → Climbing d b v (x .parent)
     climb-again q =
@@ -216,8 +202,8 @@ module _ {g : Graph} {d : Document} {w : Read ℕ} {i : ℕ} {end : Cursor} (j :
     element : w ≡ passed (elementsJudged g (listed d) i (suc (d .count - i)) [] (end .at))
     element = let z : suc (d .count) - i ≡ suc (d .count - i) = omega arith in rw z at (j .rest)
 
-    pub judging-room : Fallen d → Fallen d × (1 ≤ i) × (i ≤ d .count)
-    judging-room fallen = (fallen, j .positive, omega arith)
+    pub judging-room : Climbable d → Climbable d × (1 ≤ i) × (i ≤ d .count)
+    judging-room climbable = (climbable, j .positive, omega arith)
 
     module _ {x : Field} (k : readOf x ≡ passed (elementJudged g (listed d) i [] (end .at))) where
       pub judging-refused : {r : Refusal} → x ≡ Refused r → readOf x ≡ w

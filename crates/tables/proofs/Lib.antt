@@ -1,6 +1,10 @@
+pub mod Lists
+pub mod Readings
 pub mod Rows
 pub mod Stretch
 pub mod Tables
-pub mod Elements
 pub mod Numbers
+pub mod Elements
 pub mod Reader
+pub mod Tabling
+pub mod File

@@ -1,14 +1,14 @@
 -- The file: one law for each return of the reader, from the header to the last element.
-use Prim.Native.Nat.{ℕ, zero, suc, _+_, _-_, _≤_, _<_}
+use Prim.Native.Nat.{ℕ, zero, suc, _+_, _≤_}
 use mathlib.Core.Path.{_≡_, refl, sym, ap, _∙_}
 use mathlib.Core.Bool.{Bool, true, false, not}
-use mathlib.Core.List.{List, [], _∷_, _++_}
-use native.Mathlib.Nat.{zero-add}
+use mathlib.Core.List.{List, []}
 use native.Mathlib.Omega.{arith}
+use native.Mathlib.Nat.{zero-add}
 use lib.Dec.{eqb, leb}
-use lib.ListN.{length, getD, take, replicate}
+use lib.ListN.{length, getD, replicate}
 use borrow.Author.Needs.{needs}
-use borrow.Author.Tests.{eq-eqb, ne-eqb, le-leb, lt-leb, not-true, not-false}
+use borrow.Author.Tests.{le-leb, lt-leb, eq-eqb, ne-eqb, not-true, not-false}
 use Rattle.meaning.specs.declared.Graph.{Graph}
 use Rattle.meaning.specs.declared.Element.{Element}
 use Rattle.meaning.specs.declared.Document.{Document}
@@ -20,7 +20,7 @@ use Rattle.meaning.specs.declared.Refusal.{Refusal}
 use Rattle.meaning.specs.Limits.{elementLimit}
 use Rattle.meaning.specs.Documents.{documentNode, view, parentRule, edgeRule}
 use Rattle.meaning.specs.Records.{documentOf}
-use Rattle.fields.specs.Read.{Read, got, refused, bind, judge, _>>_, readOf, passed, byte, header, end}
+use Rattle.fields.specs.Read.{Read, got, refused, bind, _>>_, judge, readOf, passed, byte, header, end}
 use Rattle.fields.specs.Outcomes.{outcomeOf, documentRead}
 use Rattle.fields.specs.declared.Cursor.{Cursor}
 use Rattle.fields.specs.declared.Field.{Field}
@@ -31,24 +31,15 @@ use Rattle.tables.specs.declared.Row.{Row}
 use Rattle.tables.specs.declared.Gathered.{Gathered}
 use Rattle.tables.specs.declared.GatheredRead.{GatheredRead}
 use Rattle.tables.specs.Edg.{tablesRead, rowsFile, times, eachOnce, placed, elementsOf, elementJudged, elementsJudged, whole, tablesFile}
-use Rattle.tables.specs.Kept.{beside, mapped, none, gathered, Sound, GoodRow, Tabled, ones, listed}
-use Rattle.tables.proofs.Rows.{All, got-same, beside-got, beside-refused, turned-away}
-use Rattle.tables.proofs.Tables.{same-anywhere, none-sound, mapped-refused, gathered-total, tables-out}
-use Rattle.tables.proofs.Numbers.{once-all, elements-long, elements-fill, gathered-elements, gathered-times, ones-once}
-
-pub outcome-refused : {x : Field} {r : Refusal} → x ≡ Refused r → TurnedAway r ≡ outcomeOf (readOf x)
-outcome-refused q = rw q
-
-pub away-empty : {o : Outcome} (x : Field) → o ≡ outcomeOf (readOf x)
-    → _≡_ {A = DocumentRead} (record { outcome = o; document = record { count = 0; elements = replicate elementLimit documentNode } }) (record { outcome = outcomeOf (readOf x); document = documentOf [] })
-unfolding documentOf
-away-empty x h = rw h
-
-pub ruleset away-laws = (outcome-refused, away-empty, needs)
+use Rattle.tables.specs.Kept.{beside, mapped, none, added, Sound, GoodRow, Answers, ones, listed}
+use Rattle.tables.proofs.Lists.{All, same-anywhere}
+use Rattle.tables.proofs.Readings.{got-same, mapped-refused, beside-got, beside-refused, turned-away}
+use Rattle.tables.proofs.Tables.{none-sound, added-total, tables-out}
+use Rattle.tables.proofs.Numbers.{once-all, elements-long, elements-fill, added-elements, added-times, ones-once}
 
 -- header, k and the tables
 module _ (g : Graph) (s : List ℕ) {start : Cursor} (z : start .at ≡ 0) {c : Gathered} (n : c ≡ none) {x : Field} (p : readOf x ≡ passed (header 0x45 0x44 0x47 s (start .at))) where
-  pub rows-headless : {r : Refusal} → x ≡ Refused r → Tabled (record { next = x; gathered = c }) (mapped (gathered none) (rowsFile elementLimit g s 0))
+  pub rows-headless : {r : Refusal} → x ≡ Refused r → Answers (record { next = x; gathered = c }) (mapped (added none) (rowsFile elementLimit g s 0))
   unfolding mapped rowsFile
   rows-headless q =
       let h = handed-passed (header 0x45 0x44 0x47 s (start .at)) p q in
@@ -59,45 +50,45 @@ module _ (g : Graph) (s : List ℕ) {start : Cursor} (z : start .at ≡ 0) {c : 
     headed = rw z at (taken-passed (header 0x45 0x44 0x47 s (start .at)) p q)
 
     module _ {y : Field} (h : readOf y ≡ byte s (first .at)) where
-      pub rows-uncounted : {r : Refusal} → y ≡ Refused r → Tabled (record { next = y; gathered = c }) (mapped (gathered none) (rowsFile elementLimit g s 0))
+      pub rows-uncounted : {r : Refusal} → y ≡ Refused r → Answers (record { next = y; gathered = c }) (mapped (added none) (rowsFile elementLimit g s 0))
       unfolding mapped rowsFile
       rows-uncounted i = turned-away (rw n none-sound) i (simp (headed, handed h i))
 
       module _ {k : ℕ} {after : Cursor} (i : y ≡ Got k after) {a b : ℕ} (wide : a ≡ k) (place : b ≡ g .k) where
-        pub rows-other : {u : Field} → (a ≡ b → ⊥) → u ≡ Refused (record { reason = Bound }) → Tabled (record { next = u; gathered = c }) (mapped (gathered none) (rowsFile elementLimit g s 0))
+        pub rows-other : {u : Field} → (a ≡ b → ⊥) → u ≡ Refused (record { reason = Bound }) → Answers (record { next = u; gathered = c }) (mapped (added none) (rowsFile elementLimit g s 0))
         unfolding mapped rowsFile
         rows-other o j = turned-away (rw n none-sound) j (simp (headed, taken h i, ne-eqb k (g .k) (λ e. o (omega arith))))
 
-        module _ (same : a ≡ b) (t : GatheredRead) (w : Tabled t (mapped (gathered none) (tablesRead elementLimit 0 0 (g .k) s (after .at)))) where
+        module _ (same : a ≡ b) (t : GatheredRead) (w : Answers t (mapped (added none) (tablesRead elementLimit 0 0 (g .k) s (after .at)))) where
           kind-count : k ≡ g .k
           kind-count = omega arith
 
           all-kinds : eqb (g .k) (g .k) ≡ true
           all-kinds = eq-eqb (g .k) (g .k) refl
 
-          pub rows-stopped : {r : Refusal} → t .next ≡ Refused r → Tabled t (mapped (gathered none) (rowsFile elementLimit g s 0))
+          pub rows-stopped : {r : Refusal} → t .next ≡ Refused r → Answers t (mapped (added none) (rowsFile elementLimit g s 0))
           unfolding mapped rowsFile
           rows-stopped j =
-              let stop = mapped-refused (gathered none) (tablesRead elementLimit 0 0 (g .k) s (after .at)) (beside-refused (t .gathered) (w .right) j) in
+              let stop = mapped-refused (added none) (tablesRead elementLimit 0 0 (g .k) s (after .at)) (beside-refused (t .gathered) (w .right) j) in
               turned-away (w .sound) j (simp (headed, taken h i, kind-count, all-kinds, stop))
 
           module _ {m : ℕ} {last : Cursor} (j : t .next ≡ Got m last) where
             -- the rows that were read
-            tabled : (rs : List Row) × (tablesRead elementLimit 0 0 (g .k) s (after .at) ≡ got rs (last .at)) × (gathered none rs ≡ t .gathered) × (length rs ≡ t .gathered .total)
+            tabled : (rs : List Row) × (tablesRead elementLimit 0 0 (g .k) s (after .at) ≡ got rs (last .at)) × (added none rs ≡ t .gathered) × (length rs ≡ t .gathered .total)
             unfolding mapped none
             tabled =
                 let (rs, n, q, f) = bind-out (tablesRead elementLimit 0 0 (g .k) s (after .at)) _ (beside-got (t .gathered) (w .right) j) in
-                let kept : gathered none rs ≡ t .gathered = cc in
+                let kept : added none rs ≡ t .gathered = cc in
                 let next : n ≡ last .at = cc in
-                (rs, rw next at q, kept, omega (arith, gathered-total none rs, ap (λ (c : Gathered). c .total) kept))
+                (rs, rw next at q, kept, omega (arith, added-total none rs, ap (λ (c : Gathered). c .total) kept))
 
-            pub rows-none : {u : Field} → t .gathered .total ≡ 0 → u ≡ Refused (record { reason = Bound }) → Tabled (record { next = u; gathered = t .gathered }) (mapped (gathered none) (rowsFile elementLimit g s 0))
+            pub rows-none : {u : Field} → t .gathered .total ≡ 0 → u ≡ Refused (record { reason = Bound }) → Answers (record { next = u; gathered = t .gathered }) (mapped (added none) (rowsFile elementLimit g s 0))
             unfolding mapped rowsFile
             rows-none o l =
                 let (rs, q, kept, long) = tabled in
                 turned-away (w .sound) l (simp (headed, taken h i, kind-count, all-kinds, q, lt-leb 1 (length rs) (omega arith)))
 
-            pub rows-read : (t .gathered .total ≡ 0 → ⊥) → Tabled t (mapped (gathered none) (rowsFile elementLimit g s 0))
+            pub rows-read : (t .gathered .total ≡ 0 → ⊥) → Answers t (mapped (added none) (rowsFile elementLimit g s 0))
             unfolding mapped rowsFile
             rows-read o =
                 let (rs, q, kept, long) = tabled in
@@ -144,17 +135,17 @@ record Keeps (c : Gathered) (rs : List Row) : Type 0 where
   elements : c .elements ≡ placed (replicate elementLimit documentNode) rs
   once : ones (c .total) (c .times) ≡ eachOnce (length rs) rs
 
-keeps-rows : {c : Gathered} {rs : List Row} → Sound c → All (GoodRow elementLimit) rs → gathered none rs ≡ c → Keeps c rs
+keeps-rows : {c : Gathered} {rs : List Row} → Sound c → All (GoodRow elementLimit) rs → added none rs ≡ c → Keeps c rs
 unfolding none
 keeps-rows {c} {rs} sound good e =
-    let count : c .total ≡ length rs = rw e at (gathered-total none rs ∙ zero-add (length rs)) in
-    let came : (i : ℕ) → getD (gathered none rs .times) i 0 ≡ times (suc i) rs =
-    λ i. gathered-times none good refl i ∙ ap (λ n. n + times (suc i) rs) (same-anywhere {A = ℕ} 0 elementLimit i) ∙ zero-add (times (suc i) rs) in
+    let count : c .total ≡ length rs = rw e at (added-total none rs ∙ zero-add (length rs)) in
+    let came : (i : ℕ) → getD (added none rs .times) i 0 ≡ times (suc i) rs =
+    λ i. added-times none good refl i ∙ ap (λ n. n + times (suc i) rs) (same-anywhere {A = ℕ} 0 elementLimit i) ∙ zero-add (times (suc i) rs) in
     record {
       count = count;
       room = omega (arith, sound .total-most);
       good = good;
-      elements = rw e at (gathered-elements none rs);
+      elements = rw e at (added-elements none rs);
       once = rw count (ones-once (c .times) rs (rw e at came) (length rs));
     }
 
@@ -176,11 +167,11 @@ module _ (g : Graph) (s : List ℕ) where
       → tablesFile elementLimit g s 0 ≡ refused r → y ≡ documentRead (tablesFile elementLimit g s 0)
   away h q e = h ∙ rw (q, e)
 
-  module _ (x : GatheredRead) (t : Tabled x (mapped (gathered none) (rowsFile elementLimit g s 0))) where
+  module _ (x : GatheredRead) (t : Answers x (mapped (added none) (rowsFile elementLimit g s 0))) where
     pub read-refused : {y : DocumentRead} {r : Refusal} → y ≡ record { outcome = outcomeOf (readOf (x .next)); document = documentOf [] } → x .next ≡ Refused r
         → y ≡ documentRead (tablesFile elementLimit g s 0)
     unfolding tablesFile
-    read-refused h q = away h q (simp (mapped-refused (gathered none) (rowsFile elementLimit g s 0) (beside-refused (x .gathered) (t .right) q)))
+    read-refused h q = away h q (simp (mapped-refused (added none) (rowsFile elementLimit g s 0) (beside-refused (x .gathered) (t .right) q)))
 
     module _ {v : ℕ} {last : Cursor} (q : x .next ≡ Got v last) where
       found : (rs : List Row) × (rowsFile elementLimit g s 0 ≡ got rs (last .at)) × Keeps (x .gathered) rs

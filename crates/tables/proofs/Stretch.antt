@@ -2,19 +2,18 @@
 use Prim.Native.Nat.{ℕ, zero, suc, _+_, _*_, _-_, _≤_, _<_, min}
 use mathlib.Core.Path.{_≡_, refl, sym, ap, _∙_}
 use mathlib.Core.Bool.{Bool, true, false}
-use mathlib.Core.List.{List, [], _∷_}
-use native.Mathlib.Nat.{add-zero, add-assoc}
+use mathlib.Core.List.{List}
 use native.Mathlib.Omega.{arith}
+use native.Mathlib.Nat.{add-zero, add-assoc}
 use lib.Dec.{leb}
 use lib.ListN.{length, getD, take, drop, length-take, length-drop}
 use lib.Seq.{getD-take, getD-drop}
 use borrow.Author.Tests.{le-leb, lt-leb, leb-true, leb-false}
 use Rattle.meaning.specs.declared.Refusal.{Refusal}
-use Rattle.fields.specs.Read.{Read, got, refused, bind, pick}
-use Rattle.fields.proofs.Formats.{bind-out}
+use Rattle.fields.specs.Read.{Read, got, refused, bind, pick, end}
 use Rattle.tables.specs.declared.Row.{Row}
-use Rattle.tables.specs.Edg.{rowRule, rowRead, rowsRead}
-use Rattle.tables.proofs.Rows.{rowAt, rowField, row-at-once, row-out, rows-out}
+use Rattle.tables.specs.Edg.{rowRead, rowsRead}
+use Rattle.tables.proofs.Rows.{rowField, row-at-once, row-out, rows-out}
 
 -- the same, in a file in which so many bytes stand before
 shifted : {A : Type 0} → ℕ → Read A → Read A

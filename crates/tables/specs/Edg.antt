@@ -102,9 +102,12 @@ unfoldable pub rowsOf : ℕ → ℕ → List Element → List Row
 rowsOf t i [] = []
 rowsOf t i (e ∷ es) = pick (eqb (e .kind) t) (record { number = i; element = e } ∷ []) [] ++ rowsOf t (suc i) es
 
+abbrev pub rowBytes : Row → List ℕ
+rowBytes r = byteOf (r .element .parent) ++ byteOf (r .number) ++ wordOf (r .element .text)
+
 unfoldable pub rowsBytes : List Row → List ℕ
 rowsBytes [] = []
-rowsBytes (r ∷ rs) = byteOf (r .element .parent) ++ byteOf (r .number) ++ wordOf (r .element .text) ++ rowsBytes rs
+rowsBytes (r ∷ rs) = rowBytes r ++ rowsBytes rs
 
 unfoldable pub tableBytes : List Row → List ℕ
 tableBytes rs = byteOf (length rs) ++ rowsBytes rs

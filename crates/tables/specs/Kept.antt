@@ -34,9 +34,9 @@ put c r = record {
   total = c .total + 1;
 }
 
-unfoldable pub gathered : Gathered → List Row → Gathered
-gathered c [] = c
-gathered c (r ∷ rs) = gathered (put c r) rs
+unfoldable pub added : Gathered → List Row → Gathered
+added c [] = c
+added c (r ∷ rs) = added (put c r) rs
 
 -- the parent of each element has a smaller number
 abbrev pub Falling : List Element → Type 0
@@ -54,7 +54,7 @@ pub record GoodRow (limit : ℕ) (r : Row) : Type 0 where
   pub most : r .number ≤ limit
   pub falling : r .element .parent < r .number
 
-pub record Tabled (r : GatheredRead) (e : Read Gathered) : Type 0 where
+pub record Answers (r : GatheredRead) (e : Read Gathered) : Type 0 where
   pub sound : Sound (r .gathered)
   pub right : beside (r .next) (r .gathered) ≡ e
 
@@ -65,7 +65,7 @@ ones (suc n) ts = ones n ts && eqb (getD ts n 0) 1
 unfoldable pub listed : Document → List Element
 listed d = take (d .count) (d .elements)
 
-pub record Fallen (d : Document) : Type 0 where
+pub record Climbable (d : Document) : Type 0 where
   pub long : length (d .elements) ≡ elementLimit
   pub most : d .count ≤ elementLimit
   pub falling : Falling (d .elements)

@@ -9,9 +9,11 @@ ghost use Rattle.meaning.specs.Records.{documentOf};
 ghost use Rattle.fields.specs.Read.{readOf, passed};
 ghost use Rattle.fields.specs.Outcomes.{outcomeOf, documentRead};
 ghost use Rattle.tables.specs.Edg.{rowRule, rowRead, rowsRead, tablesRead, rowsFile, elementJudged, elementsJudged, tablesFile};
-ghost use Rattle.tables.specs.Kept.{beside, mapped, none, put, gathered, Sound, GoodRow, Tabled, ones, listed, Fallen};
+ghost use Rattle.tables.specs.Kept.{beside, mapped, none, put, added, Sound, GoodRow, Answers, ones, listed, Climbable};
 use fields::Cursor;
+use fields::DOCUMENT_NODE;
 use fields::Field;
+use fields::turned_away;
 use meaning::Document;
 use meaning::DocumentRead;
 use meaning::Element;
@@ -21,19 +23,18 @@ use meaning::Reason;
 
 const LIMIT: usize = 127;
 
-const DOCUMENT_NODE: Element = Element {
-    parent: 0,
-    kind: 16,
-    text: 0,
-};
-
 // A row: the number of an element, and the element.
 pub struct Row {
     pub number: u16,
     pub element: Element,
 }
 
-// A row as its reader hands it on, beside where reading goes on or the refusal.
+const NO_ROW: Row = Row {
+    number: 0,
+    element: DOCUMENT_NODE,
+};
+
+// A row, beside where reading goes on or the refusal.
 struct RowRead {
     next: Field,
     row: Row,
@@ -46,7 +47,7 @@ struct Gathered {
     total: usize,
 }
 
-// The same beside where reading goes on or the refusal.
+// The same, beside where reading goes on or the refusal.
 struct GatheredRead {
     next: Field,
     gathered: Gathered,
@@ -79,43 +80,28 @@ fn keeps_row_rule(before: u16, from: u16, to: u16) -> bool
     from < to
 }
 
-// A row is one field of four bytes. It stands behind the row numbered `before` of its table.
+// A row of a table, behind the row numbered `before`. Its four bytes are one field, so they are judged when all are there.
 fn read_row(part: &[u8], cursor: Cursor, kind: u8, before: u16) -> RowRead
     ensures { λ r. ⌜ beside (r .next) (r .row) ≡ rowRead elementLimit kind before (now (part .entry)) (cursor .at) ⌝ }
 {
-    let no_row = Row {
-        number: 0,
-        element: DOCUMENT_NODE,
+    let next = cursor.byte(part);
+    let Field::Got(from, second) = next else {
+        return RowRead { next, row: NO_ROW };
     };
-    let parented = cursor.byte(part);
-    let Field::Got(from, second) = parented else {
-        return RowRead {
-            next: parented,
-            row: no_row,
-        };
+    let next = second.byte(part);
+    let Field::Got(to, third) = next else {
+        return RowRead { next, row: NO_ROW };
     };
-    let numbered = second.byte(part);
-    let Field::Got(to, third) = numbered else {
-        return RowRead {
-            next: numbered,
-            row: no_row,
-        };
-    };
-    let texted = third.word(part);
-    let Field::Got(text, next) = texted else {
-        return RowRead {
-            next: texted,
-            row: no_row,
-        };
+    let next = third.word(part);
+    let Field::Got(text, after) = next else {
+        return RowRead { next, row: NO_ROW };
     };
     if !keeps_row_rule(before, from, to) {
-        return RowRead {
-            next: fields::refuse(Reason::Number),
-            row: no_row,
-        };
+        let next = fields::refuse(Reason::Number);
+        return RowRead { next, row: NO_ROW };
     }
     RowRead {
-        next: Field::Got(0, next),
+        next: Field::Got(0, after),
         row: Row {
             number: to,
             element: Element {
@@ -171,37 +157,32 @@ impl Gathered {
     }
 }
 
-// The rows of one type, which are the whole of `part`.
+// The rows of one type: `part` holds their bytes, as far as the file has them.
 fn read_table(part: &[u8], kind: u8, count: u16, before: Gathered) -> GatheredRead
     requires { ⌜ Sound before × (before .total + count ≤ elementLimit) ⌝ }
-    ensures { λ r. ⌜ Tabled r (mapped (gathered before) (rowsRead elementLimit kind 0 count (now (part .entry)) 0)) ⌝ }
+    ensures { λ r. ⌜ Answers r (mapped (added before) (rowsRead elementLimit kind 0 count (now (part .entry)) 0)) ⌝ }
 {
-    let mut rows = before;
+    let mut gathered = before;
     let mut cursor = Cursor::start();
     let mut last: u16 = 0;
     let mut left = count;
     while left > 0 {
         let read = read_row(part, cursor, kind, last);
-        let field = read.next;
-        let Field::Got(_, next) = field else {
-            return GatheredRead {
-                next: field,
-                gathered: rows,
-            };
+        let next = read.next;
+        let Field::Got(_, after) = next else {
+            return GatheredRead { next, gathered };
         };
-        let found = read.row;
-        rows = rows.put(found);
-        cursor = next;
-        last = found.number;
+        let row = read.row;
+        gathered = gathered.put(row);
+        cursor = after;
+        last = row.number;
         left -= 1;
     }
-    GatheredRead {
-        next: Field::Got(0, cursor),
-        gathered: rows,
-    }
+    let next = Field::Got(0, cursor);
+    GatheredRead { next, gathered }
 }
 
-// Where so many rows from a on end. Where the file ends inside of them, that is its end.
+// Where so many rows from a on end: at the end of the file where that comes first.
 fn stretch_end(s: &[u8], a: usize, count: u16) -> usize
     requires { ⌜ a ≤ length (now s) ⌝ }
     ensures { λ r. ⌜ r ≡ min (a + count * 4) (length (now (s .entry))) ⌝ }
@@ -213,46 +194,69 @@ fn stretch_end(s: &[u8], a: usize, count: u16) -> usize
     a + size
 }
 
-// The tables of k types.
 fn read_tables(s: &[u8], start: Cursor, k: u8) -> GatheredRead
-    ensures { λ r. ⌜ Tabled r (mapped (gathered none) (tablesRead elementLimit 0 0 k (now (s .entry)) (start .at))) ⌝ }
+    ensures { λ r. ⌜ Answers r (mapped (added none) (tablesRead elementLimit 0 0 k (now (s .entry)) (start .at))) ⌝ }
 {
-    let mut rows = Gathered::none();
+    let mut gathered = Gathered::none();
     let mut cursor = start;
     let mut kind: u8 = 0;
     while kind < k {
-        let counted = cursor.byte(s);
-        let Field::Got(count, after) = counted else {
-            return GatheredRead {
-                next: counted,
-                gathered: rows,
-            };
+        let next = cursor.byte(s);
+        let Field::Got(count, after) = next else {
+            return GatheredRead { next, gathered };
         };
-        if LIMIT - rows.total < wide(count) {
-            return GatheredRead {
-                next: fields::refuse(Reason::Bound),
-                gathered: rows,
-            };
+        if LIMIT - gathered.total < wide(count) {
+            let next = fields::refuse(Reason::Bound);
+            return GatheredRead { next, gathered };
         }
         let a = after.at;
         let e = stretch_end(s, a, count);
-        let read = read_table(&s[a..e], kind, count, rows);
-        let field = read.next;
-        rows = read.gathered;
-        let Field::Got(_, _) = field else {
+        let read = read_table(&s[a..e], kind, count, gathered);
+        let next = read.next;
+        let Field::Got(_, _) = next else {
             return read;
         };
+        gathered = read.gathered;
         cursor = Cursor { at: e };
         kind += 1;
     }
-    GatheredRead {
-        next: Field::Got(0, cursor),
-        gathered: rows,
+    let next = Field::Got(0, cursor);
+    GatheredRead { next, gathered }
+}
+
+// Header, k and the tables.
+fn read_rows(s: &[u8], g: Graph) -> GatheredRead
+    ensures { λ r. ⌜ Answers r (mapped (added none) (rowsFile elementLimit g (now (s .entry)) 0)) ⌝ }
+{
+    let gathered = Gathered::none();
+    let next = Cursor::start().header(s, b'E', b'D', b'G');
+    let Field::Got(_, first) = next else {
+        return GatheredRead { next, gathered };
+    };
+    let next = first.byte(s);
+    let Field::Got(k, after) = next else {
+        return GatheredRead { next, gathered };
+    };
+    let types = g.k;
+    if wide(k) != place(types) {
+        let next = fields::refuse(Reason::Bound);
+        return GatheredRead { next, gathered };
     }
+    let read = read_tables(s, after, types);
+    let next = read.next;
+    let Field::Got(_, _) = next else {
+        return read;
+    };
+    let gathered = read.gathered;
+    if gathered.total == 0 {
+        let next = fields::refuse(Reason::Bound);
+        return GatheredRead { next, gathered };
+    }
+    read
 }
 
 fn node_at(document: Document, v: u8) -> Element
-    requires { ⌜ Fallen document ⌝ }
+    requires { ⌜ Climbable document ⌝ }
     ensures { λ r. ⌜ r ≡ node (listed document) v ⌝ }
 {
     let number = place(v);
@@ -266,9 +270,9 @@ fn node_at(document: Document, v: u8) -> Element
     document.elements[i]
 }
 
-// Whether v is an ancestor of w: it is met on the way up, on which numbers fall.
+// Whether v is met on the way up from w.
 fn is_ancestor(document: Document, v: u8, w: u8) -> bool
-    requires { ⌜ Fallen document × (w ≤ document .count) ⌝ }
+    requires { ⌜ Climbable document × (w ≤ document .count) ⌝ }
     ensures { λ r. ⌜ r ≡ below (view (listed document)) v w ⌝ }
 {
     let mut node = w;
@@ -283,7 +287,7 @@ fn is_ancestor(document: Document, v: u8, w: u8) -> bool
 }
 
 fn keeps_parent_rule(document: Document, i: u8) -> bool
-    requires { ⌜ Fallen document × (1 ≤ i) × (i ≤ document .count) ⌝ }
+    requires { ⌜ Climbable document × (1 ≤ i) × (i ≤ document .count) ⌝ }
     ensures { λ r. ⌜ r ≡ parentRule (view (listed document)) i ⌝ }
 {
     let parent = node_at(document, i).parent;
@@ -301,7 +305,7 @@ fn keeps_parent_rule(document: Document, i: u8) -> bool
 }
 
 fn keeps_edge_rule(g: Graph, document: Document, i: u8) -> bool
-    requires { ⌜ Fallen document ⌝ }
+    requires { ⌜ Climbable document ⌝ }
     ensures { λ r. ⌜ r ≡ edgeRule g (view (listed document)) i ⌝ }
 {
     let element = node_at(document, i);
@@ -309,9 +313,9 @@ fn keeps_edge_rule(g: Graph, document: Document, i: u8) -> bool
     graph::is_child(g, parent.kind, element.kind)
 }
 
-// Nothing is read here: the file has ended.
+// The file has ended: nothing is read any more, and the cursor stays.
 fn judge_element(g: Graph, document: Document, i: u8, end: Cursor) -> Field
-    requires { ⌜ Fallen document × (1 ≤ i) × (i ≤ document .count) ⌝ }
+    requires { ⌜ Climbable document × (1 ≤ i) × (i ≤ document .count) ⌝ }
     ensures { λ r. ⌜ readOf r ≡ passed (elementJudged g (listed document) i [] (end .at)) ⌝ }
 {
     if !keeps_parent_rule(document, i) {
@@ -324,7 +328,7 @@ fn judge_element(g: Graph, document: Document, i: u8, end: Cursor) -> Field
 }
 
 fn judge_elements(g: Graph, document: Document, end: Cursor) -> Field
-    requires { ⌜ Fallen document ⌝ }
+    requires { ⌜ Climbable document ⌝ }
     ensures { λ r. ⌜ readOf r ≡ passed (elementsJudged g (listed document) 1 (document .count) [] (end .at)) ⌝ }
 {
     let count = document.count;
@@ -339,88 +343,25 @@ fn judge_elements(g: Graph, document: Document, end: Cursor) -> Field
     Field::Got(0, end)
 }
 
-// Header, k and the tables.
-fn read_rows(s: &[u8], g: Graph) -> GatheredRead
-    ensures { λ r. ⌜ Tabled r (mapped (gathered none) (rowsFile elementLimit g (now (s .entry)) 0)) ⌝ }
-{
-    let nothing = Gathered::none();
-    let headed = Cursor::start().header(s, b'E', b'D', b'G');
-    let Field::Got(_, first) = headed else {
-        return GatheredRead {
-            next: headed,
-            gathered: nothing,
-        };
-    };
-    let counted = first.byte(s);
-    let Field::Got(k, after) = counted else {
-        return GatheredRead {
-            next: counted,
-            gathered: nothing,
-        };
-    };
-    let types = g.k;
-    if wide(k) != place(types) {
-        return GatheredRead {
-            next: fields::refuse(Reason::Bound),
-            gathered: nothing,
-        };
-    }
-    let read = read_tables(s, after, types);
-    let field = read.next;
-    let Field::Got(_, _) = field else {
-        return read;
-    };
-    let rows = read.gathered;
-    if rows.total == 0 {
-        return GatheredRead {
-            next: fields::refuse(Reason::Bound),
-            gathered: rows,
-        };
-    }
-    read
-}
-
-fn outcome(field: Field) -> Outcome
-    ensures { λ r. ⌜ r ≡ outcomeOf (readOf field) ⌝ }
-{
-    match field {
-        Field::Got(_, _) => Outcome::Accepted,
-        Field::Refused(refusal) => Outcome::Refused(refusal),
-    }
-}
-
-// A refused document is the empty one.
-fn turned_away(field: Field) -> DocumentRead
-    ensures { λ r. ⌜ r ≡ record { outcome = outcomeOf (readOf field); document = documentOf [] } ⌝ }
-{
-    DocumentRead {
-        outcome: outcome(field),
-        document: Document {
-            count: 0,
-            elements: [DOCUMENT_NODE; 127],
-        },
-    }
-}
-
 pub fn read(s: &[u8], g: Graph) -> DocumentRead
     ensures { λ r. ⌜ r ≡ documentRead (tablesFile elementLimit g (now (s .entry)) 0) ⌝ }
 {
     let read = read_rows(s, g);
-    let field = read.next;
-    let Field::Got(_, end) = field else {
-        return turned_away(field);
+    let next = read.next;
+    let Field::Got(_, end) = next else {
+        return turned_away(next);
     };
     let ended = end.end(s);
     let Field::Got(_, _) = ended else {
         return turned_away(ended);
     };
-    let rows = read.gathered;
-    if !rows.each_once() {
+    let gathered = read.gathered;
+    if !gathered.each_once() {
         return turned_away(fields::refuse(Reason::Number));
     }
-    let elements = rows.elements;
+    let elements = gathered.elements;
     let document = Document {
-        count: rows.total,
+        count: gathered.total,
         elements,
     };
     let judged = judge_elements(g, document, end);

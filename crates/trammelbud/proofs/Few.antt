@@ -49,55 +49,6 @@ few-steps k bs h =
     omega (arith, few, same-got (j .3), steps-length k 0 (n .0) bs (n .1) (n .3), ap length same)
 
 module _ (limit : ℕ) (g : Graph) (s : List ℕ) where
-  opened-few : (o : Open) (at : ℕ) {o′ : Open} {n : ℕ} → opened limit g o s at ≡ got o′ n → length (o′ .elements) ≤ limit
-  unfolding opened pushed
-  opened-few o at h =
-      let b = bind-out (judge (ltb (length (o .elements)) limit) Bound s at) _ h in
-      let t = bind-out (byte s (b .1)) _ (b .3) in
-      let k = bind-out (judge (ltb (t .0) (g .k)) Kind s (t .1)) _ (t .3) in
-      let e = bind-out (judge (childKind g (node (o .elements) (o .inner) .kind) (t .0)) Edge s (k .1)) _ (k .3) in
-      let x = bind-out (word s (e .1)) _ (e .3) in
-      let room : length (o .elements) < limit = ltb-true _ limit (judge-out (ltb (length (o .elements)) limit) Bound s at (b .2) .0) in
-      omega (arith, ap (λ o. length (o .elements)) (same-got (x .3)), length-append (o .elements) (record { parent = o .inner; kind = t .0; text = x .0 } ∷ []))
-
-  closed-few : (o : Open) (at : ℕ) {o′ : Open} {n : ℕ} → length (o .elements) ≤ limit → closed o s at ≡ got o′ n → length (o′ .elements) ≤ limit
-  unfolding closed
-  closed-few o at few h =
-      let b = bind-out (judge (ltb 0 (length (o .elements))) Edge s at) _ h in
-      rw (ap (λ o. o .elements) (same-got (b .3))) at few
-
-  token-few : (o : Open) (at : ℕ) {o′ : Open} {n : ℕ} → length (o .elements) ≤ limit → token limit g o s at ≡ got o′ n → length (o′ .elements) ≤ limit
-  unfolding token
-  token-few o at few h =
-      let c = bind-out (byte s at) _ h in
-      by-code (eqb (c .0) 0x01) (eqb (c .0) 0x02) (c .1) (c .3)
-    where
-      by-code : (a b : Bool) (at : ℕ) {o′ : Open} {n : ℕ} → pick a (opened limit g o) (pick b (closed o) (refuse Code)) s at ≡ got o′ n → length (o′ .elements) ≤ limit
-      by-code true b at h = opened-few o at h
-      by-code false true at h = closed-few o at few h
-      by-code false false at h = refused-out h
-
-  tokens-few : (f : ℕ) (o : Open) (at : ℕ) {es : List Element} {n : ℕ} → length (o .elements) ≤ limit → tokens f limit g o s at ≡ got es n → length es ≤ limit
-  unfolding tokens
-  tokens-few zero o at few h = refused-out h
-  tokens-few (suc f) o at few h =
-      let t = bind-out (token limit g o s at) _ h in
-      let later = token-few o at few (t .2) in
-      by-inner (eqb (t .0 .inner) 0) (t .0) (t .1) later (tokens-few f (t .0) (t .1) later) (t .3)
-    where
-      by-inner : (b : Bool) (o′ : Open) (at : ℕ) {es : List Element} {n : ℕ} → length (o′ .elements) ≤ limit
-          → (tokens f limit g o′ s at ≡ got es n → length es ≤ limit) → pick b (give (o′ .elements)) (tokens f limit g o′) s at ≡ got es n → length es ≤ limit
-      by-inner true o′ at few more h = rw (same-got h) at few
-      by-inner false o′ at few more h = more h
-
-  pub few-elements : {es : List Element} {n : ℕ} → documentFile limit g s 0 ≡ got es n → length es ≤ limit
-  unfolding documentFile
-  few-elements h =
-      let i = bind-out (header 0x54 0x52 0x45 s 0) _ h in
-      let t = bind-out (tokens (length s) limit g nothingOpen s (i .1)) _ (i .3) in
-      let e = bind-out (end s (t .1)) _ (t .3) in
-      rw (same-got (e .3)) at (tokens-few (length s) nothingOpen (i .1) (omega arith) (t .2))
-
   rows-length : (t before n at : ℕ) {rs : List Row} {m : ℕ} → rowsRead limit t before n s at ≡ got rs m → length rs ≡ n
   unfolding rowsRead
   rows-length t before zero at h = ap length (sym (same-got h))

@@ -33,7 +33,8 @@ use Rattle.graph.specs.declared.GraphRead.{GraphRead}
 use Rattle.document.specs.Tre.{documentFile}
 use Rattle.tables.specs.Edg.{tablesFile}
 use Rattle.program.specs.Rel.{programFile}
-use Rattle.trammelbud.proofs.Few.{few-elements, few-placed, few-steps}
+use Rattle.trammelbud.proofs.Few.{few-placed, few-steps}
+use Rattle.document.proofs.Bounds.{few-elements}
 use Rattle.trammelbud.specs.Calls.{answerOf, counted, readGraph, readUnder}
 
 abbrev turnedAway : Refusal → Answer

@@ -1,59 +1,47 @@
+-- The elements below i keep both rules, and judging the others comes to the same as judging all.
 use Prim.Native.Nat.{suc, _-_}
 use mathlib.Core.List.{[]}
 use Rattle.fields.specs.Read.{passed}
 use Rattle.tables.specs.Edg.{elementsJudged}
 use Rattle.tables.specs.Kept.{listed}
-use Rattle.tables.proofs.Elements.{Judging}
-use Rattle.tables.proofs.Elements.{judging-laws}
+use Rattle.tables.proofs.Elements.{Judging, judging-laws}
 use Rattle.tables.proofs.judge_elements.Statement.{statement}
 use Rattle.tables.proofs.judge_elements.Tie as tie
-use Rattle.tables.proofs.judge_elements.Reads as reads
-use Rattle.tables.proofs.judge_elements.Lts as lts
-use Rattle.tables.proofs.judge_element.Reads as judge-element-reads
-use Rattle.tables.proofs.place.Reads as place-reads
 
 abbrev Inv-loop : tie.InvT-loop
-Inv-loop g document end count i₀ i = Judging g document (passed (elementsJudged g (listed document) 1 (document .count) [] (end .at))) (end .at) i
+Inv-loop g document end count i₀ i =
+    Judging g document (passed (elementsJudged g (listed document) 1 (document .count) [] (end .at))) (end .at) i
 
 abbrev μ-loop : tie.MeasureT-loop
 μ-loop g document end count i₀ i = suc (document .count) - i
 
--- src/lib.rt:332:5
 loop-holds : tie.Need-loop-holds Inv-loop μ-loop
 loop-holds c = search judging-laws
 
--- src/lib.rt:332:11
 place-requires : tie.Need-place-requires Inv-loop μ-loop
 place-requires c κs = search judging-laws
 
--- src/lib.rt:333:13
 judge-element-requires : tie.Need-judge-element-requires Inv-loop μ-loop
 judge-element-requires c κs = search judging-laws
 
 enum-told : tie.Need-enum-told Inv-loop μ-loop
 enum-told c = search judging-laws
 
--- src/lib.rt:335:13
 enum-told-2 : tie.Need-enum-told-2 Inv-loop μ-loop
 enum-told-2 c = search judging-laws
 
--- src/lib.rt:335:13
 returns : tie.Need-returns Inv-loop μ-loop
 returns c = search judging-laws
 
--- src/lib.rt:337:9
 add-i : tie.Need-add-i Inv-loop μ-loop
 add-i c = search judging-laws
 
--- src/lib.rt:332:5
 loop-less : tie.Need-loop-less Inv-loop μ-loop
 loop-less c = search judging-laws
 
--- src/lib.rt:332:5
 loop-again : tie.Need-loop-again Inv-loop μ-loop
 loop-again c = search judging-laws
 
--- src/lib.rt:326:1
 returns-2 : tie.Need-returns-2 Inv-loop μ-loop
 returns-2 c = search judging-laws
 

@@ -1,3 +1,4 @@
+-- Below i each number came once; the first that did not refuses all.
 use Prim.Native.Nat.{_≤_, _-_}
 use mathlib.Core.Path.{_≡_}
 use mathlib.Core.Bool.{true}
@@ -5,40 +6,32 @@ use Rattle.tables.specs.Kept.{ones}
 use Rattle.tables.proofs.Elements.{ones-laws}
 use Rattle.tables.proofs.Gathered.each_once.Statement.{statement}
 use Rattle.tables.proofs.Gathered.each_once.Tie as tie
-use Rattle.tables.proofs.Gathered.each_once.Reads as reads
-use Rattle.tables.proofs.Gathered.each_once.Lts as lts
 
 abbrev Inv-loop : tie.InvT-loop
-Inv-loop self i₀ i = (i ≤ self .total) × (ones i (self .times) ≡ true)
+Inv-loop self i₀ i =
+    (i ≤ self .total) × (ones i (self .times) ≡ true)
 
 abbrev μ-loop : tie.MeasureT-loop
 μ-loop self i₀ i = self .total - i
 
--- src/lib.rt:164:9
 loop-holds : tie.Need-loop-holds Inv-loop μ-loop
 loop-holds c = search ones-laws
 
--- src/lib.rt:165:16
 element-copy-out-if1 : tie.Need-element-copy-out-if1 Inv-loop μ-loop
 element-copy-out-if1 c = search ones-laws
 
--- src/lib.rt:166:17
 returns : tie.Need-returns Inv-loop μ-loop
 returns c = search ones-laws
 
--- src/lib.rt:168:13
 add-i : tie.Need-add-i Inv-loop μ-loop
 add-i c = search ones-laws
 
--- src/lib.rt:164:9
 loop-less : tie.Need-loop-less Inv-loop μ-loop
 loop-less c = search ones-laws
 
--- src/lib.rt:164:9
 loop-again : tie.Need-loop-again Inv-loop μ-loop
 loop-again c = search ones-laws
 
--- src/lib.rt:159:5
 returns-2 : tie.Need-returns-2 Inv-loop μ-loop
 returns-2 c = search ones-laws
 

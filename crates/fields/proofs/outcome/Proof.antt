@@ -1,7 +1,7 @@
 -- Each answer of a field reader has its outcome.
-use Rattle.document.proofs.Reading.{laws}
-use Rattle.document.proofs.outcome.Statement.{statement}
-use Rattle.document.proofs.outcome.Tie as tie
+use Rattle.fields.proofs.Laws.{laws}
+use Rattle.fields.proofs.outcome.Statement.{statement}
+use Rattle.fields.proofs.outcome.Tie as tie
 
 enum-told : tie.Need-enum-told
 enum-told c = search laws

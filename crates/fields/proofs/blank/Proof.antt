@@ -1,7 +1,7 @@
 -- No element, and every place blank.
-use Rattle.document.proofs.Reading.{laws}
-use Rattle.document.proofs.blank.Statement.{statement}
-use Rattle.document.proofs.blank.Tie as tie
+use Rattle.fields.proofs.Laws.{laws}
+use Rattle.fields.proofs.blank.Statement.{statement}
+use Rattle.fields.proofs.blank.Tie as tie
 
 returns : tie.Need-returns
 returns c = search laws

@@ -1,7 +1,7 @@
 -- The outcome and the empty document, from their functions' contracts.
-use Rattle.document.proofs.Reading.{laws}
-use Rattle.document.proofs.turned_away.Statement.{statement}
-use Rattle.document.proofs.turned_away.Tie as tie
+use Rattle.fields.proofs.Laws.{laws}
+use Rattle.fields.proofs.turned_away.Statement.{statement}
+use Rattle.fields.proofs.turned_away.Tie as tie
 
 outcome-requires : tie.Need-outcome-requires
 outcome-requires c κs = search laws
