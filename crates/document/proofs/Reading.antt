@@ -1,9 +1,9 @@
 -- The loop over tokens: what reading goes on from, and one law for each turn and return.
 use Prim.Native.Nat.{ℕ, zero, suc, _-_, _≤_, _<_}
 use mathlib.Core.List.{List, []}
-use mathlib.Core.Path.{_≡_, refl, sym, ap, _∙_}
+use mathlib.Core.Path.{_≡_, sym, ap, _∙_}
 use native.Mathlib.Omega.{arith}
-use lib.ListN.{length, replicate}
+use lib.ListN.{length}
 use borrow.Author.Needs.{needs}
 use borrow.Author.Tests.{le-ltb, eq-eqb, ne-eqb}
 use Rattle.meaning.specs.declared.Graph.{Graph}
@@ -14,14 +14,13 @@ use Rattle.meaning.specs.declared.Outcome.{Outcome}
 use Rattle.meaning.specs.declared.Refusal.{Refusal}
 use Rattle.meaning.specs.declared.Reason.the-variants.{Ended}
 use Rattle.meaning.specs.Limits.{elementLimit}
-use Rattle.meaning.specs.Documents.{documentNode}
 use Rattle.meaning.specs.Records.{documentOf}
 use Rattle.meaning.proofs.Records.{document-holds}
 use Rattle.fields.specs.declared.Cursor.{Cursor}
 use Rattle.fields.specs.declared.Field.{Field}
 use Rattle.fields.specs.declared.Field.the-variants.{Got, Refused}
 use Rattle.fields.specs.Read.{Read, got, refused, bind, _>>=_, _>>_, give, readOf, passed, byte, header, end}
-use Rattle.fields.specs.Outcomes.{outcomeOf, documentRead, awayOf}
+use Rattle.fields.specs.Outcomes.{documentRead, awayOf}
 use Rattle.fields.proofs.Laws.{taken-passed, handed-passed}
 use Rattle.document.specs.declared.Standing.{Standing}
 use Rattle.document.specs.declared.Turn.{Turn}

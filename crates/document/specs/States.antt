@@ -1,12 +1,10 @@
 -- How the reader's records hold where reading stands: what its parts promise each other.
 use mathlib.Core.Path.{_≡_}
-use mathlib.Core.List.{[]}
-use Rattle.meaning.specs.declared.DocumentRead.{DocumentRead}
 use Rattle.meaning.specs.Records.{documentOf, elementsIn}
 use Rattle.fields.specs.declared.Field.{Field}
 use Rattle.fields.specs.declared.Field.the-variants.{Got, Refused}
-use Rattle.fields.specs.Read.{Read, got, refused, readOf}
-use Rattle.fields.specs.Outcomes.{outcomeOf, valueOr}
+use Rattle.fields.specs.Read.{Read, got, refused}
+use Rattle.fields.specs.Outcomes.{valueOr}
 use Rattle.document.specs.declared.Standing.{Standing}
 use Rattle.document.specs.declared.Turn.{Turn}
 use Rattle.document.specs.Tre.{Open}

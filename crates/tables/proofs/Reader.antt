@@ -13,8 +13,7 @@ use Rattle.meaning.specs.declared.Graph.{Graph}
 use Rattle.meaning.specs.declared.Element.{Element}
 use Rattle.meaning.specs.declared.Document.{Document}
 use Rattle.meaning.specs.declared.DocumentRead.{DocumentRead}
-use Rattle.meaning.specs.declared.Outcome.{Outcome}
-use Rattle.meaning.specs.declared.Outcome.the-variants.{Accepted, Refused as TurnedAway}
+use Rattle.meaning.specs.declared.Outcome.the-variants.{Accepted}
 use Rattle.meaning.specs.declared.Reason.the-variants.{Bound, Number, Edge}
 use Rattle.meaning.specs.declared.Refusal.{Refusal}
 use Rattle.meaning.specs.Limits.{elementLimit}

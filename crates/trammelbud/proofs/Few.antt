@@ -1,23 +1,21 @@
 -- No reader accepts more than the limit: so every count fits its field.
-use Prim.Native.Nat.{ℕ, zero, suc, _+_, _≤_, _<_}
-use mathlib.Core.Path.{_≡_, refl, sym, ap, _∙_}
-use mathlib.Core.Bool.{Bool, true, false, _&&_}
-use mathlib.Core.List.{List, [], _∷_, _++_}
+use Prim.Native.Nat.{ℕ, zero, suc, _+_, _≤_}
+use mathlib.Core.Path.{_≡_, sym, ap, _∙_}
+use mathlib.Core.Bool.{_&&_}
+use mathlib.Core.List.{List}
 use native.Mathlib.Omega.{arith}
-use lib.Dec.{eqb, ltb, leb}
+use lib.Dec.{eqb, leb}
 use lib.ListN.{length, length-append, length-take, replicate}
-use borrow.Author.Tests.{ltb-true, leb-true}
+use borrow.Author.Tests.{leb-true}
 use Rattle.meaning.specs.declared.Graph.{Graph}
 use Rattle.meaning.specs.declared.Element.{Element}
 use Rattle.meaning.specs.declared.Operation.{Operation}
-use Rattle.meaning.specs.declared.Reason.the-variants.{Bound, Code, Kind, Edge, Number}
+use Rattle.meaning.specs.declared.Reason.the-variants.{Bound, Number}
 use Rattle.meaning.specs.Limits.{stepLimit}
-use Rattle.meaning.specs.Graphs.{childKind}
-use Rattle.meaning.specs.Documents.{node, documentNode}
+use Rattle.meaning.specs.Documents.{documentNode}
 use Rattle.meaning.proofs.Tests.{and-right}
-use Rattle.fields.specs.Read.{Read, Reader, got, refused, bind, pick, give, judge, refuse, byte, word, header, end}
-use Rattle.fields.proofs.Formats.{refused-out, bind-out, judge-out}
-use Rattle.document.specs.Tre.{Open, pushed, opened, closed, token, tokens, nothingOpen, documentFile}
+use Rattle.fields.specs.Read.{got, judge, byte, header, end}
+use Rattle.fields.proofs.Formats.{bind-out, judge-out}
 use Rattle.tables.specs.Edg.{rowRead, rowsRead, tablesRead, placed, elementsOf, eachOnce, elementsJudged, rowsFile, whole, tablesFile}
 use Rattle.tables.specs.declared.Row.{Row}
 use Rattle.program.specs.Rel.{judged, stepRead, stepsRead, program, programFile}

@@ -1,15 +1,14 @@
 -- One law for each return of a call: the first refusal met is the answer, and else the count.
 use Prim.Native.Nat.{ℕ, _-_, _≤_, _<_, _^_}
 use mathlib.Core.Path.{_≡_, refl, sym, ap, _∙_}
-use mathlib.Core.List.{List, [], _∷_, _++_}
+use mathlib.Core.List.{List, []}
 use native.Mathlib.Omega.{arith}
-use lib.ListN.{length, length-append, replicate, length-replicate}
+use lib.ListN.{length}
 use borrow.Author.Needs.{needs}
 use Rattle.meaning.specs.declared.Answer.{Answer}
 use Rattle.meaning.specs.declared.Graph.{Graph}
 use Rattle.meaning.specs.declared.Element.{Element}
 use Rattle.meaning.specs.declared.DocumentRead.{DocumentRead}
-use Rattle.meaning.specs.declared.Outcome.{Outcome}
 use Rattle.meaning.specs.declared.Outcome.the-variants.{Accepted, Refused}
 use Rattle.meaning.specs.declared.Refusal.{Refusal}
 use Rattle.meaning.specs.Refused.{numberOf}
@@ -17,12 +16,8 @@ use Rattle.fields.specs.Read.{Read, got, refused, bind}
 use Rattle.fields.specs.Outcomes.{outcomeOf, valueOr, documentRead}
 use Rattle.meaning.specs.declared.Operation.{Operation}
 use Rattle.meaning.specs.Limits.{elementLimit, queryLimit, stepLimit}
-use Rattle.meaning.specs.Documents.{documentNode}
-use Rattle.meaning.specs.Records.{documentOf, elementsIn, operationsIn, blankStep, stepsFrom, programOf}
+use Rattle.meaning.specs.Records.{documentOf, programOf}
 use Rattle.meaning.specs.Queries.{XPath}
-use Rattle.meaning.proofs.Records.{document-holds, program-holds}
-use Rattle.meaning.specs.declared.Document.{Document}
-use Rattle.meaning.specs.declared.Program.{Program}
 use Rattle.query.specs.Answers.{queryRead}
 use Rattle.query.specs.declared.QueryRead.{QueryRead}
 use Rattle.program.specs.Answers.{programRead}
