@@ -1,0 +1,100 @@
+-- Laws of a number's bits: shifted, mixed, the lowest that is set, and the number that they make.
+use Prim.Native.Nat.{ℕ, zero, suc, _+_, _-_, _/_, _%_, _^_, _<_, suc-le-suc}
+use mathlib.Core.Path.{_≡_, refl, ap, _∙_}
+use mathlib.Core.Bool.{Bool, true, false, not, _&&_, cond}
+use native.Mathlib.Nat.{div-div-eq-div-mul, pow-succ', div-one, pow-suc, zero-add, suc-add, not-suc-le-zero}
+use native.Mathlib.Omega.{arith}
+use borrow.Author.Needs.{needs}
+use borrow.Author.Tests.{eq-eqb, ne-eqb}
+use lib.Dec.{eqb}
+use mir.Syntax.{w8}
+use mir.Val.{Fits}
+use lib.Bits.{bitAnd, bitOr, and-lt, or-lt}
+use lib.Count.{trailingZeros, under}
+use Rattle.meaning.specs.Sets.{bit, mask}
+use Rattle.meaning.proofs.Sets.{bit-none}
+use Rattle.meaning.proofs.Bits.{bit-or, bit-and}
+use Rattle.runner.specs.declared.row.Mix.{Mix}
+use Rattle.runner.specs.declared.row.Mix.the-variants.{Either, Both, First}
+use Rattle.runner.specs.Rooms.{mixes, mixedByte, Lowest}
+
+-- bit i + j is bit j after a shift by i
+pub bit-shifted : (i j m : ℕ) → bit (m / 2 ^ i) j ≡ bit m (i + j)
+unfolding bit
+bit-shifted zero j m = rw (zero-add, div-one)
+bit-shifted (suc i) j m = rw (suc-add, pow-succ', ← (div-div-eq-div-mul m 2 (2 ^ i))) (bit-shifted i j (m / 2))
+
+-- what holds of each digit
+pub digit : (P : ℕ → Type 0) → P 0 → P 1 → (x : ℕ) → x < 2 → P x
+digit P a b zero l = a
+digit P a b (suc zero) l = b
+digit P a b (suc (suc x)) l = absurd (omega arith)
+
+-- every bit turned round
+pub bit-not : (n i a : ℕ) → a < 2 ^ n → i < n → bit (2 ^ n - 1 - a) i ≡ not (bit a i)
+unfolding bit
+bit-not zero i a l m = absurd (not-suc-le-zero m)
+bit-not (suc n) zero a l m =
+    let low : (2 ^ suc n - 1 - a) % 2 ≡ 1 - a % 2 = omega (arith, pow-suc 2 n) in
+    rw low (digit (λ x. eqb (1 - x) 1 ≡ not (eqb x 1)) refl refl (a % 2) (omega arith))
+bit-not (suc n) (suc i) a l m =
+    let half : (2 ^ suc n - 1 - a) / 2 ≡ 2 ^ n - 1 - a / 2 = omega (arith, pow-suc 2 n) in
+    rw half (bit-not n i (a / 2) (omega (arith, pow-suc 2 n)) (omega arith))
+
+-- a number below 2 ^ n is the mask of its bits
+pub is-mask : (n m : ℕ) (f : ℕ → Bool) → m < 2 ^ n → ((i : ℕ) → i < n → bit m i ≡ f i) → m ≡ mask n f
+unfolding bit mask
+is-mask zero m f l h = omega arith
+is-mask (suc n) m f l h =
+    let half : m / 2 ≡ mask n (λ i. f (suc i)) = is-mask n (m / 2) (λ i. f (suc i)) (omega (arith, pow-suc 2 n)) (λ i k. h (suc i) (omega arith)) in
+    let low : m % 2 ≡ cond (f 0) 1 0 = rw (← h 0 (omega arith)) (digit (λ x. x ≡ cond (eqb x 1) 1 0) refl refl (m % 2) (omega arith)) in
+    omega (arith, half, low)
+
+module _ {how : Mix} {x y : ℕ} where
+  pub mixed-either : Fits w8 x → Fits w8 y → how ≡ Either → bitOr x y ≡ mixedByte how x y
+  unfolding mixes mixedByte
+  mixed-either f g e = is-mask 8 (bitOr x y) _ (or-lt 8 x y (f .fits) (g .fits)) (λ i l. rw e (bit-or i x y))
+
+  pub mixed-both : Fits w8 x → Fits w8 y → how ≡ Both → bitAnd x y ≡ mixedByte how x y
+  unfolding mixes mixedByte
+  mixed-both f g e = is-mask 8 (bitAnd x y) _ (and-lt 8 x y (f .fits) (g .fits)) (λ i l. rw e (bit-and i x y))
+
+  pub mixed-first : Fits w8 x → Fits w8 y → how ≡ First → bitAnd x (255 - y) ≡ mixedByte how x y
+  unfolding mixes mixedByte
+  mixed-first f g e =
+      is-mask 8 (bitAnd x (255 - y)) _ (and-lt 8 x (255 - y) (f .fits) (omega arith))
+      (λ i l. rw e (bit-and i x (255 - y) ∙ ap (λ b. bit x i && b) (bit-not 8 i y (g .fits) l)))
+
+-- the lowest bit that is set, by the lowest digit: it is that, or it is the lowest of the half
+lowest-by : (k m t d : ℕ) → m % 2 ≡ d → d < 2 → (d ≡ 0 → Lowest k (m / 2) t) → Lowest (suc k) m (under d t)
+unfolding bit
+lowest-by k m t zero e l h = record { below = suc-le-suc (h refl .below); isset = h refl .isset; zeros = zeros-from (h refl) }
+  where
+    zeros-from : Lowest k (m / 2) t → (i : ℕ) → i < suc t → bit m i ≡ false
+    zeros-from h zero l = ne-eqb (m % 2) 1 (λ q. omega arith)
+    zeros-from h (suc i) l = h .zeros i (omega arith)
+lowest-by k m t (suc zero) e l h = record { below = omega arith; isset = eq-eqb (m % 2) 1 e; zeros = λ i q. absurd (not-suc-le-zero q) }
+lowest-by k m t (suc (suc d)) e l h = absurd (omega arith)
+
+pub lowest-is : (k m : ℕ) → 0 < m → m < 2 ^ k → Lowest k m (trailingZeros k m)
+unfolding trailingZeros
+lowest-is zero m p l = absurd (omega arith)
+lowest-is (suc k) m p l =
+    lowest-by k m (trailingZeros k (m / 2)) (m % 2) refl (omega arith) (λ e. lowest-is k (m / 2) (omega arith) (omega (arith, pow-suc 2 k)))
+
+-- the bits of a power of 2
+pub bit-power : (k : ℕ) → bit (2 ^ k) k ≡ true
+unfolding bit
+bit-power zero = refl
+bit-power (suc k) = let half : 2 ^ suc k / 2 ≡ 2 ^ k = omega (arith, pow-suc 2 k) in rw half (bit-power k)
+
+pub bit-power-other : (k i : ℕ) → (i ≡ k → ⊥) → bit (2 ^ k) i ≡ false
+unfolding bit
+bit-power-other zero zero ne = absurd (ne refl)
+bit-power-other zero (suc i) ne = bit-none i
+bit-power-other (suc k) zero ne = ne-eqb (2 ^ suc k % 2) 1 (λ e. omega (arith, pow-suc 2 k))
+bit-power-other (suc k) (suc i) ne =
+    let half : 2 ^ suc k / 2 ≡ 2 ^ k = omega (arith, pow-suc 2 k) in
+    rw half (bit-power-other k i (λ e. ne (ap suc e)))
+
+pub ruleset laws = (mixed-either, mixed-both, mixed-first, needs)

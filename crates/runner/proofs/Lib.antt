@@ -1,0 +1,11 @@
+pub mod Cases
+pub mod Bits
+pub mod Bytes
+pub mod Rows
+pub mod Searches
+pub mod Answers
+pub mod Rooms
+pub mod Turns
+pub mod Elements
+pub mod Sweeps
+pub mod Closings

@@ -1,0 +1,143 @@
+-- The closure by sweeps, as relations: what is added is in it, so many sweeps hold so many steps, and what a sweep leaves
+-- as it was is closed.
+use Prim.Native.Nat.{ℕ, zero, suc, _+_, _≤_, _<_}
+use mathlib.Core.Path.{_≡_, refl, sym, ap, _∙_, subst}
+use mathlib.Core.Bool.{Bool, true, false, not, _&&_, _||_}
+use native.Mathlib.Numerals.{add-one}
+use native.Mathlib.Omega.{arith}
+use Rattle.meaning.specs.Sets.{any}
+use Rattle.meaning.specs.Relations.{Relation, OneOrMore, one, more, within, closure}
+use Rattle.meaning.proofs.Tests.{never, same, and-in, and-left, and-right, or-left, or-right, or-out}
+use Rattle.meaning.proofs.Sets.{any-in, any-out}
+use Rattle.meaning.proofs.Closure.{On, closure-sound, closure-complete}
+use Rattle.runner.specs.declared.row.Mix.the-variants.{First}
+use Rattle.runner.specs.Rooms.{gathered, mixes, Grown}
+use Rattle.runner.proofs.Cases.{by-equal}
+
+passes : (a : Bool) → (a ≡ false → ⊥) → a ≡ true
+passes true h = refl
+passes false h = absurd (h refl)
+
+neither : (a b : Bool) → a || b ≡ false → (a ≡ false) × (b ≡ false)
+neither true b h = never (sym h)
+neither false b h = (refl, h)
+
+module _ (size : ℕ) (r : Relation) where
+  -- a step in front of some steps
+  front : {v u w : ℕ} → r v u ≡ true → OneOrMore r u w → OneOrMore r v w
+  front e (one h) = more (one e) h
+  front e (more p h) = more (front e p) h
+
+  -- the first of up to k + 1 steps
+  within-front : {P : Type 0} (k v w : ℕ) → (r v w ≡ true → P) → ((u : ℕ) → u < size → r v u ≡ true → within k size r u w ≡ true → P) → within (suc k) size r v w ≡ true → P
+  unfolding within
+  within-front zero v w f g h = or-out (r v w) _ f (any-out size _ (λ u l e. never (and-right (r u w) _ e))) h
+  within-front (suc k) v w f g h =
+      or-out (r v w) _ f
+      (any-out size (λ u. r u w && within (suc k) size r v u) λ u l e.
+      let last : r u w ≡ true = and-left (r u w) _ e in
+      within-front k v u (λ q. g u l q (or-left (r u w) _ last))
+      (λ x m q p. g x m q (or-right (r x w) _ (any-in size (λ y. r y w && within k size r x y) u l (and-in last p))))
+      (and-right (r u w) _ e)) h
+
+  -- the closure holds what one step, and then it, leads to
+  pub closure-over : On size r → (v u w : ℕ) → u < size → r v u ≡ true → closure size r u w ≡ true → closure size r v w ≡ true
+  closure-over on v u w l e h = closure-complete size r on (front e (closure-sound size r h))
+
+  pub grown-none : (b : Relation) → Grown size r b b size false
+  grown-none b = record {
+    keeps = λ v w h. h;
+    takes = λ v u w l m. absurd (omega arith);
+    sound = λ p over in-p. in-p;
+    still = λ e v w h. h;
+  }
+
+  -- One row more has taken in: v's, from what is there by now.
+  module _ {b c d : Relation} {v limit : ℕ} {g t : Bool} (n : Grown size r b c (v + 1) g) (there : (w : ℕ) → d v w ≡ gathered size c (r v) (c v) w)
+      (elsewhere : (u w : ℕ) → (u ≡ v → ⊥) → d u w ≡ c u w) (few : (w : ℕ) → d v w ≡ true → w < limit) (added : t ≡ any limit (λ w. mixes First (d v w) (c v w))) where
+    -- what is there by now stays
+    stays : (u w : ℕ) → c u w ≡ true → d u w ≡ true
+    unfolding gathered
+    stays u w h =
+        by-equal u v
+        (λ e. ap (λ (x : ℕ). d x w) e ∙ there w ∙ or-left (c v w) _ (sym (ap (λ (x : ℕ). c x w) e) ∙ h))
+        (λ e. elsewhere u w e ∙ h)
+
+    taken : (u w : ℕ) → u < size → r v u ≡ true → c u w ≡ true → d v w ≡ true
+    unfolding gathered
+    taken u w l e h = there w ∙ or-right (c v w) _ (any-in size (λ x. r v x && c x w) u l (and-in e h))
+
+    -- what is there was there by then, or was taken in from it
+    out : (P : ℕ → Type 0) (u w : ℕ) → (c u w ≡ true → P u) → ((x : ℕ) → x < size → r v x ≡ true → c x w ≡ true → P v) → d u w ≡ true → P u
+    unfolding gathered
+    out P u w f k h =
+        by-equal u v
+        (λ e. subst P (sym e) (or-out (c v w) _ (λ q. subst P e (f (ap (λ (x : ℕ). c x w) e ∙ q)))
+        (any-out size (λ x. r v x && c x w) (λ x l q. k x l (and-left (r v x) _ q) (and-right (r v x) _ q)))
+        (sym (there w) ∙ sym (ap (λ (x : ℕ). d x w) e) ∙ h)))
+        (λ e. f (sym (elsewhere u w e) ∙ h))
+
+    unchanged : t ≡ false → (w : ℕ) → d v w ≡ true → c v w ≡ true
+    unfolding mixes
+    unchanged e w h =
+        passes (c v w) λ q.
+        never (sym e ∙ added ∙ any-in limit (λ x. mixes First (d v x) (c v x)) w (few w h) (and-in h (ap not q)))
+
+    pub grown-more : Grown size r b d v (g || t)
+    grown-more = record {
+      keeps = λ x w h. stays x w (n .keeps x w h);
+      takes = λ x u w l m k e h. by-equal x v
+          (λ q. ap (λ (y : ℕ). d y w) q ∙ taken u w k (sym (ap (λ (y : ℕ). r y u) q) ∙ e) (n .keeps u w h))
+          (λ q. stays x w (n .takes x u w (omega arith) m k e h));
+      sound = λ p over in-p x w h. out (λ y. p y w ≡ true) x w (n .sound p over in-p x w) (λ u l e q. over v u w l e (n .sound p over in-p u w q)) h;
+      still = λ e x w h. n .still (neither g t e .0) x w (by-equal x v
+          (λ q. ap (λ (y : ℕ). c y w) q ∙ unchanged (neither g t e .1) w (sym (ap (λ (y : ℕ). d y w) q) ∙ h))
+          (λ q. sym (elsewhere x w q) ∙ h));
+    }
+
+  -- as many as k steps are in, and nothing that is not in the closure
+  pub record Closing (after : Relation) (k : ℕ) : Type 0 where
+    pub inside : (v w : ℕ) → after v w ≡ true → closure size r v w ≡ true
+    pub holds : (v w : ℕ) → within k size r v w ≡ true → after v w ≡ true
+
+  within-one : (k v w : ℕ) → 1 ≤ k → r v w ≡ true → within k size r v w ≡ true
+  unfolding within
+  within-one zero v w l h = absurd (omega arith)
+  within-one (suc k) v w l h = or-left (r v w) _ h
+
+  one-within : (v w : ℕ) → within 1 size r v w ≡ true → r v w ≡ true
+  unfolding within
+  one-within v w h = or-out (r v w) _ (λ e. e) (any-out size _ (λ u l e. never (and-right (r u w) _ e))) h
+
+  module _ (on : On size r) where
+    pub closing-one : Closing r 1
+    closing-one = record { inside = λ v w h. closure-complete size r on (one h); holds = one-within }
+
+    pub closing-all : {b : Relation} {k : ℕ} → Closing b k → k ≡ size → (v w : ℕ) → b v w ≡ closure size r v w
+    unfolding closure
+    closing-all {b} {k} n e v w = same (b v w) _ (n .inside v w) (λ h. n .holds v w (ap (λ (j : ℕ). within j size r v w) e ∙ h))
+
+    -- A sweep over what holds k steps.
+    module _ {b c : Relation} {k : ℕ} {g : Bool} (n : Closing b k) (l : 1 ≤ k) (s : Grown size r b c 0 g) where
+      step-in : (v w : ℕ) → r v w ≡ true → b v w ≡ true
+      step-in v w h = n .holds v w (within-one k v w l h)
+
+      front-in : (v u w : ℕ) → u < size → r v u ≡ true → b u w ≡ true → c v w ≡ true
+      front-in v u w m e h = s .takes v u w (omega arith) (on v u e .0) m e h
+
+      pub closing-more : Closing c (k + 1)
+      closing-more = record {
+        inside = s .sound (closure size r) (closure-over on) (n .inside);
+        holds = λ v w h. within-front k v w (λ e. s .keeps v w (step-in v w e)) (λ u m e q. front-in v u w m e (n .holds u w q))
+            (sym (ap (λ (j : ℕ). within j size r v w) (add-one k)) ∙ h);
+      }
+
+      -- if it added nothing, any number of steps are in
+      steps-in : g ≡ false → (j v w : ℕ) → within j size r v w ≡ true → b v w ≡ true
+      unfolding within
+      steps-in e zero v w h = never h
+      steps-in e (suc j) v w h = within-front j v w (step-in v w) (λ u m q p. s .still e v w (front-in v u w m q (steps-in e j u w p))) h
+
+      pub closing-still : g ≡ false → (v w : ℕ) → c v w ≡ closure size r v w
+      unfolding closure
+      closing-still e v w = same (c v w) _ (closing-more .inside v w) (λ h. s .keeps v w (steps-in e size v w h))

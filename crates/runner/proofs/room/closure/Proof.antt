@@ -1,0 +1,75 @@
+-- So many steps are in; a sweep that adds nothing shows that all are, and size steps always are.
+use Prim.Native.Nat.{_-_}
+use borrow.Author.Tests.{not-true}
+use Rattle.runner.proofs.Rooms.{places-kept}
+use borrow.Author.Needs.{needs}
+use Rattle.runner.proofs.Closings.{Closes, closes-one, closes-more, closes-still, closes-all, closed-from}
+use Rattle.runner.proofs.room.closure.Statement.{statement}
+use Rattle.runner.proofs.room.closure.Tie as tie
+use Rattle.runner.proofs.room.closure.Reads as reads
+use Rattle.runner.proofs.room.closure.Lts as lts
+use Rattle.runner.proofs.room.mix.Reads as mix-reads
+use Rattle.runner.proofs.room.sweep.Reads as sweep-reads
+
+abbrev Inv-loop : tie.InvT-loop
+Inv-loop work₀ base a size steps₀ work steps = Closes 16 work₀ work base a size steps
+
+abbrev μ-loop : tie.MeasureT-loop
+μ-loop work₀ base a size steps₀ work steps = size - steps
+
+mix-requires : tie.Need-mix-requires Inv-loop μ-loop
+mix-requires c κs = search needs
+
+loop-holds : tie.Need-loop-holds Inv-loop μ-loop
+loop-holds c = let m = c .before .before in closes-one 16 (m .before .before .before .pre) (m .mix .ensures)
+
+sweep-requires : tie.Need-sweep-requires Inv-loop μ-loop
+sweep-requires c κs = let l = c .before .before .loop .inv in places-kept 16 (l .others) (l .asked .places)
+
+same-length : tie.Need-same-length Inv-loop μ-loop
+same-length c = search needs
+
+returns : tie.Need-returns Inv-loop μ-loop
+returns c =
+    let s = c .before .before .before in
+    let l = s .before .before .before in
+    let m = l .before .before .before in
+    closed-from 16 (m .before .before .before .pre) (m .mix .ensures) (closes-still 16 (l .loop .inv) (s .sweep .ensures) (not-true _ (c .if1 .taken)))
+
+add-steps : tie.Need-add-steps Inv-loop μ-loop
+add-steps c = search needs
+
+loop-less : tie.Need-loop-less Inv-loop μ-loop
+loop-less c = search needs
+
+loop-again : tie.Need-loop-again Inv-loop μ-loop
+loop-again c =
+    let s = c .before .before .before in
+    let i = s .before .before in
+    closes-more 16 (i .before .loop .inv) (s .sweep .ensures) (i .loop-test .taken)
+
+same-length-2 : tie.Need-same-length-2 Inv-loop μ-loop
+same-length-2 c = search needs
+
+returns-2 : tie.Need-returns-2 Inv-loop μ-loop
+returns-2 c =
+    let l = c .before in
+    let m = l .before .before .before in
+    closed-from 16 (m .before .before .before .pre) (m .mix .ensures) (closes-all 16 (l .loop .inv) (c .loop-test .left))
+
+pub closure-spec : {M : Type 1} → statement M
+closure-spec =
+    tie.close
+    (tie.spec
+    Inv-loop
+    μ-loop
+    mix-requires
+    loop-holds
+    sweep-requires
+    same-length
+    returns
+    add-steps
+    loop-less
+    loop-again
+    same-length-2
+    returns-2)
