@@ -1,3 +1,4 @@
 pub mod Layout
 pub mod Rooms
 pub mod Ready
+pub mod Run

@@ -11,7 +11,6 @@ use Rattle.meaning.specs.declared.Element.{Element}
 use Rattle.meaning.specs.declared.DocumentRead.{DocumentRead}
 use Rattle.meaning.specs.declared.Outcome.the-variants.{Accepted, Refused}
 use Rattle.meaning.specs.declared.Refusal.{Refusal}
-use Rattle.meaning.specs.Refused.{numberOf}
 use Rattle.fields.specs.Read.{Read, got, refused, bind}
 use Rattle.fields.specs.Outcomes.{outcomeOf, valueOr, documentRead}
 use Rattle.meaning.specs.declared.Operation.{Operation}
@@ -30,10 +29,8 @@ use Rattle.tables.specs.Edg.{tablesFile}
 use Rattle.program.specs.Rel.{programFile}
 use Rattle.trammelbud.proofs.Few.{few-placed, few-steps}
 use Rattle.document.proofs.Bounds.{few-elements}
+use Rattle.writing.specs.Lent.{accepted, turnedAway}
 use Rattle.trammelbud.specs.Calls.{answerOf, counted, readGraph, readUnder}
-
-abbrev turnedAway : Refusal → Answer
-turnedAway r = record { number = numberOf (r .reason); count = 0 }
 
 refused-is : {A : Type 0} (e : Read A) {r : Refusal} → outcomeOf e ≡ Refused r → e ≡ refused r
 refused-is (got a at) h = cc
@@ -49,7 +46,7 @@ went-on : {A : Type 0} (none : A) (e : Read A) (f : A → Read ℕ) → outcomeO
 went-on none (got a at) f h = refl
 went-on none (refused r) f h = cc
 
-counted-all : {A : Type 0} (none : A) (e : Read A) (f : A → ℕ) → outcomeOf e ≡ Accepted → record { number = 0; count = f (valueOr none e) } ≡ answerOf (counted f e)
+counted-all : {A : Type 0} (none : A) (e : Read A) (f : A → ℕ) → outcomeOf e ≡ Accepted → accepted (f (valueOr none e)) ≡ answerOf (counted f e)
 unfolding answerOf counted
 counted-all none (got a at) f h = refl
 counted-all none (refused r) f h = cc
@@ -59,10 +56,10 @@ module _ (s : List ℕ) {x : GraphRead} {a : Answer} (p : x ≡ graphRead (graph
   unfolding readGraph counted
   graph-refused q e = e ∙ stopped (graphFile s 0) _ (ap (λ y. y .outcome) (sym p) ∙ q)
 
-  pub graph-counted : x .outcome ≡ Accepted → a ≡ record { number = 0; count = x .graph .k } → a ≡ readGraph s
+  pub graph-counted : x .outcome ≡ Accepted → a ≡ accepted (x .graph .k) → a ≡ readGraph s
   unfolding readGraph
   graph-counted q e =
-      e ∙ ap (λ y. record { number = 0; count = y .graph .k }) p
+      e ∙ ap (λ y. accepted (y .graph .k)) p
       ∙ counted-all noGraph (graphFile s 0) (λ g. g .k) (ap (λ y. y .outcome) (sym p) ∙ q)
 
   pub under-refused : (f : Graph → Read ℕ) {r : Refusal} → x .outcome ≡ Refused r → a ≡ turnedAway r → a ≡ readUnder f s
@@ -79,10 +76,10 @@ module _ (e : Read (List Element)) {x : DocumentRead} {a : Answer} (p : x ≡ do
   unfolding counted
   elements-refused q h = h ∙ stopped e _ (ap (λ y. y .outcome) (sym p) ∙ q)
 
-  pub elements-counted : x .outcome ≡ Accepted → a ≡ record { number = 0; count = x .document .count } → a ≡ answerOf (counted length e)
+  pub elements-counted : x .outcome ≡ Accepted → a ≡ accepted (x .document .count) → a ≡ answerOf (counted length e)
   unfolding documentOf
   elements-counted q h =
-      h ∙ ap (λ y. record { number = 0; count = y .document .count }) p
+      h ∙ ap (λ y. accepted (y .document .count)) p
       ∙ counted-all [] e length (ap (λ y. y .outcome) (sym p) ∙ q)
 
 -- no more than the limit is read, so the count fits
@@ -107,17 +104,17 @@ module _ (e : Read (List Operation)) {x : ProgramRead} (p : x ≡ programRead e)
   unfolding counted
   steps-refused q h = h ∙ stopped e _ (ap (λ y. y .outcome) (sym p) ∙ q)
 
-  pub steps-counted : {a : Answer} → x .outcome ≡ Accepted → a ≡ record { number = 0; count = x .program .count } → a ≡ answerOf (counted length e)
+  pub steps-counted : {a : Answer} → x .outcome ≡ Accepted → a ≡ accepted (x .program .count) → a ≡ answerOf (counted length e)
   unfolding programOf
   steps-counted q h =
-      h ∙ ap (λ y. record { number = 0; count = y .program .count }) p
+      h ∙ ap (λ y. accepted (y .program .count)) p
       ∙ counted-all [] e length (ap (λ y. y .outcome) (sym p) ∙ q)
 
 query-outcome : (e : Read (XPath × ℕ)) → outcomeOf e ≡ queryRead e .outcome
 query-outcome (got q at) = refl
 query-outcome (refused r) = refl
 
-query-counted : (e : Read (XPath × ℕ)) → outcomeOf e ≡ Accepted → record { number = 0; count = queryRead e .nodes } ≡ answerOf (counted (λ q. queryLimit - q .1) e)
+query-counted : (e : Read (XPath × ℕ)) → outcomeOf e ≡ Accepted → accepted (queryRead e .nodes) ≡ answerOf (counted (λ q. queryLimit - q .1) e)
 unfolding answerOf counted
 query-counted (got q at) h = refl
 query-counted (refused r) h = cc
@@ -127,11 +124,8 @@ module _ (e : Read (XPath × ℕ)) {x : QueryRead} {a : Answer} (p : x ≡ query
   unfolding counted
   nodes-refused q h = h ∙ stopped e _ (query-outcome e ∙ ap (λ y. y .outcome) (sym p) ∙ q)
 
-  pub nodes-counted : x .outcome ≡ Accepted → a ≡ record { number = 0; count = x .nodes } → a ≡ answerOf (counted (λ q. queryLimit - q .1) e)
+  pub nodes-counted : x .outcome ≡ Accepted → a ≡ accepted (x .nodes) → a ≡ answerOf (counted (λ q. queryLimit - q .1) e)
   nodes-counted q h =
-      h ∙ ap (λ y. record { number = 0; count = y .nodes }) p ∙ query-counted e (query-outcome e ∙ ap (λ y. y .outcome) (sym p) ∙ q)
+      h ∙ ap (λ y. accepted (y .nodes)) p ∙ query-counted e (query-outcome e ∙ ap (λ y. y .outcome) (sym p) ∙ q)
 
-pub numbered : {n m : ℕ} → n ≡ m → _≡_ {A = Answer} (record { number = n; count = 0 }) (record { number = m; count = 0 })
-numbered e = ap (λ n. record { number = n; count = 0 }) e
-
-pub ruleset laws = (graph-refused, graph-counted, under-refused, under-went-on, elements-refused, elements-counted, document-fits, tables-fit, nodes-refused, nodes-counted, steps-refused, steps-counted, program-fits, numbered, needs)
+pub ruleset laws = (graph-refused, graph-counted, under-refused, under-went-on, elements-refused, elements-counted, document-fits, tables-fit, nodes-refused, nodes-counted, steps-refused, steps-counted, program-fits, needs)

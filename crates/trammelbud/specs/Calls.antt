@@ -5,8 +5,8 @@ use lib.ListN.{length}
 use Rattle.meaning.specs.declared.Graph.{Graph}
 use Rattle.meaning.specs.declared.Answer.{Answer}
 use Rattle.meaning.specs.Limits.{elementLimit, queryLimit}
-use Rattle.meaning.specs.Refused.{numberOf}
 use Rattle.fields.specs.Read.{Read, got, refused, bind}
+use Rattle.writing.specs.Lent.{accepted, turnedAway}
 use Rattle.graph.specs.Gra.{graphFile}
 use Rattle.document.specs.Tre.{documentFile}
 use Rattle.tables.specs.Edg.{tablesFile}
@@ -15,8 +15,8 @@ use Rattle.program.specs.Rel.{programFile}
 
 -- accepted: 0 and what the file counts; refused: the number of the reason and 0
 unfoldable pub answerOf : Read ℕ → Answer
-answerOf (got n at) = record { number = 0; count = n }
-answerOf (refused r) = record { number = numberOf (r .reason); count = 0 }
+answerOf (got n at) = accepted n
+answerOf (refused r) = turnedAway r
 
 unfoldable pub counted : {A : Type 0} → (A → ℕ) → Read A → Read ℕ
 counted f e = bind e λ a at. got (f a) at

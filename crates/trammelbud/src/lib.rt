@@ -1,27 +1,11 @@
 // The public calls that read. Each takes any bytes; the graph is read first, and the first refusal met is the answer.
 ghost use mathlib.Core.Path.{_≡_};
-ghost use Rattle.meaning.specs.Refused.{numberOf};
 ghost use Rattle.trammelbud.specs.Calls.{answerOf, readGraph, readUnder, documentCount, tablesCount, queryCount, programCount};
 use meaning::Answer;
 use meaning::Graph;
 use meaning::Outcome;
-use meaning::Refusal;
-
-fn accepted(count: u32) -> Answer
-    ensures { λ r. ⌜ r ≡ record { number = 0; count = count } ⌝ }
-{
-    Answer { number: 0, count }
-}
-
-fn refused(refusal: Refusal) -> Answer
-    ensures { λ r. ⌜ r ≡ record { number = numberOf (refusal .reason); count = 0 } ⌝ }
-{
-    let reason = refusal.reason;
-    Answer {
-        number: meaning::number(reason),
-        count: 0,
-    }
-}
+use writing::accepted;
+use writing::turned_away;
 
 // A graph: how many types it has.
 #[no_mangle]
@@ -32,7 +16,7 @@ pub extern "C" fn tb_read_graph(gra: &[u8]) -> Answer
     let outcome = read.outcome;
     match outcome {
         Outcome::Accepted => accepted(read.graph.k as u32),
-        Outcome::Refused(refusal) => refused(refusal),
+        Outcome::Refused(refusal) => turned_away(refusal),
     }
 }
 
@@ -43,7 +27,7 @@ fn document_under(g: Graph, tre: &[u8]) -> Answer
     let outcome = read.outcome;
     match outcome {
         Outcome::Accepted => accepted(read.document.count as u32),
-        Outcome::Refused(refusal) => refused(refusal),
+        Outcome::Refused(refusal) => turned_away(refusal),
     }
 }
 
@@ -56,7 +40,7 @@ pub extern "C" fn tb_read_document(gra: &[u8], tre: &[u8]) -> Answer
     let outcome = read.outcome;
     match outcome {
         Outcome::Accepted => document_under(read.graph, tre),
-        Outcome::Refused(refusal) => refused(refusal),
+        Outcome::Refused(refusal) => turned_away(refusal),
     }
 }
 
@@ -67,7 +51,7 @@ fn tables_under(g: Graph, edg: &[u8]) -> Answer
     let outcome = read.outcome;
     match outcome {
         Outcome::Accepted => accepted(read.document.count as u32),
-        Outcome::Refused(refusal) => refused(refusal),
+        Outcome::Refused(refusal) => turned_away(refusal),
     }
 }
 
@@ -80,7 +64,7 @@ pub extern "C" fn tb_read_tables(gra: &[u8], edg: &[u8]) -> Answer
     let outcome = read.outcome;
     match outcome {
         Outcome::Accepted => tables_under(read.graph, edg),
-        Outcome::Refused(refusal) => refused(refusal),
+        Outcome::Refused(refusal) => turned_away(refusal),
     }
 }
 
@@ -91,7 +75,7 @@ fn query_under(g: Graph, qry: &[u8]) -> Answer
     let outcome = read.outcome;
     match outcome {
         Outcome::Accepted => accepted(read.nodes as u32),
-        Outcome::Refused(refusal) => refused(refusal),
+        Outcome::Refused(refusal) => turned_away(refusal),
     }
 }
 
@@ -104,7 +88,7 @@ pub extern "C" fn tb_read_query(gra: &[u8], qry: &[u8]) -> Answer
     let outcome = read.outcome;
     match outcome {
         Outcome::Accepted => query_under(read.graph, qry),
-        Outcome::Refused(refusal) => refused(refusal),
+        Outcome::Refused(refusal) => turned_away(refusal),
     }
 }
 
@@ -115,7 +99,7 @@ fn program_under(g: Graph, rel: &[u8]) -> Answer
     let outcome = read.outcome;
     match outcome {
         Outcome::Accepted => accepted(read.program.count as u32),
-        Outcome::Refused(refusal) => refused(refusal),
+        Outcome::Refused(refusal) => turned_away(refusal),
     }
 }
 
@@ -128,6 +112,6 @@ pub extern "C" fn tb_read_program(gra: &[u8], rel: &[u8]) -> Answer
     let outcome = read.outcome;
     match outcome {
         Outcome::Accepted => program_under(read.graph, rel),
-        Outcome::Refused(refusal) => refused(refusal),
+        Outcome::Refused(refusal) => turned_away(refusal),
     }
 }
