@@ -80,7 +80,7 @@ unfolding relOf
 blank-shown = fun-ext λ A. fun-ext bit-none
 
 -- the steps as sets show the steps as relations, past their end too
-none-shown : (n s : ℕ) → relOf (getD (replicate n (announcedSets nothing)) s blank) ≡ nothing
+pub none-shown : (n s : ℕ) → relOf (getD (replicate n (announcedSets nothing)) s blank) ≡ nothing
 none-shown zero s = blank-shown
 none-shown (suc n) zero = sets-show nothing nothing-on
 none-shown (suc n) (suc s) = none-shown n s

@@ -1,7 +1,7 @@
 -- One law for each answer of the check: the first refusal met, or what is announced.
 use Prim.Native.Nat.{ℕ}
-use mathlib.Core.Path.{_≡_, refl, _∙_}
-use mathlib.Core.List.{List, []}
+use mathlib.Core.Path.{_≡_, _∙_}
+use mathlib.Core.List.{List}
 use lib.ListN.{length, getD, replicate}
 use borrow.Author.Needs.{needs}
 use mir.Syntax.{w8}
@@ -14,19 +14,17 @@ use Rattle.meaning.specs.Limits.{kinds, stepLimit}
 use Rattle.meaning.specs.Relations.{nothing, at}
 use Rattle.meaning.specs.Graphs.{LegalGraph}
 use Rattle.meaning.specs.Announcements.{announced}
-use Rattle.meaning.specs.Records.{programOf, operationsIn}
+use Rattle.meaning.specs.Records.{operationsIn}
 use Rattle.meaning.specs.Refused.{numberOf}
-use Rattle.meaning.proofs.Records.{program-holds}
-use Rattle.fields.specs.Read.{Read, got, refused}
-use Rattle.fields.specs.Outcomes.{outcomeOf, valueOr}
+use Rattle.fields.specs.Read.{got, refused}
 use Rattle.graph.specs.declared.GraphRead.{GraphRead}
 use Rattle.graph.specs.Gra.{graphFile}
-use Rattle.graph.specs.Answers.{noGraph, graphRead}
-use Rattle.graph.proofs.File.{graph-read}
+use Rattle.graph.specs.Answers.{graphRead}
+use Rattle.graph.proofs.Held.{graph-turned, graph-held, graph-legal}
 use Rattle.program.specs.declared.ProgramRead.{ProgramRead}
 use Rattle.program.specs.Rel.{programFile}
 use Rattle.program.specs.Answers.{programRead}
-use Rattle.program.proofs.File.{program-read}
+use Rattle.program.proofs.Held.{program-turned, program-held, program-count, program-legal}
 use Rattle.announce.specs.declared.Announced.{Announced}
 use Rattle.announce.specs.declared.Checked.{Checked}
 use Rattle.announce.specs.Pairs.{relOf, Legal}
@@ -38,51 +36,26 @@ pub refused-made : (r : Refusal) (n : ℕ) (e : Announced) → n ≡ numberOf (r
 unfolding checked
 refused-made r n e q l h = rw (q, sets-made nothing nothing-on e l h)
 
--- what a reading was that came out so
-turned : {A : Type 0} (e : Read A) {r : Refusal} → outcomeOf e ≡ Refused r → e ≡ refused r
-turned (got a at) h = cc
-turned (refused q) h = cc
-
-held : {A : Type 0} (none : A) (e : Read A) → outcomeOf e ≡ Accepted → (n : ℕ) × (e ≡ got (valueOr none e) n)
-held none (got a at) h = (at, refl)
-held none (refused r) h = (0, cc)
-
-module _ (gra : List ℕ) (x : GraphRead) (p : x ≡ graphRead (graphFile gra 0)) where
-  graph-held : x .outcome ≡ Accepted → (n : ℕ) × (graphFile gra 0 ≡ got (x .graph) n)
-  graph-held h = rw p (held noGraph (graphFile gra 0) (rw p at h))
-
-module _ (k : ℕ) (rel : List ℕ) (y : ProgramRead) (p : y ≡ programRead (programFile k rel 0)) where
-  program-held : y .outcome ≡ Accepted → (n : ℕ) × (programFile k rel 0 ≡ got (operationsIn (y .program)) n)
-  program-held h = rw (p, program-holds (valueOr [] (programFile k rel 0))) (held [] (programFile k rel 0) (rw p at h))
-
-  program-count : y .program .count ≡ length (operationsIn (y .program))
-  unfolding programOf
-  program-count = rw (p, program-holds (valueOr [] (programFile k rel 0)))
-
 module _ (gra rel : List ℕ) (x : GraphRead) (p : x ≡ graphRead (graphFile gra 0)) {c : Checked} where
   pub no-graph : {r : Refusal} → x .outcome ≡ Refused r → c ≡ checked (refused r) → c ≡ checkOf gra rel
   unfolding checkOf checked
-  no-graph h e = e ∙ rw (turned (graphFile gra 0) (rw p at h))
+  no-graph h e = e ∙ rw (graph-turned gra p h)
 
   module _ (h : x .outcome ≡ Accepted) (y : ProgramRead) (q : y ≡ programRead (programFile (x .graph .k) rel 0)) where
     pub no-program : {r : Refusal} → y .outcome ≡ Refused r → c ≡ checked (refused r) → c ≡ checkOf gra rel
     unfolding checkOf checked
-    no-program i e = e ∙ rw (graph-held gra x p h .1, turned (programFile (x .graph .k) rel 0) (rw q at i))
+    no-program i e = e ∙ rw (graph-held gra p h .1, program-turned (x .graph .k) rel q i)
 
     pub all-read : y .outcome ≡ Accepted → c ≡ record { number = 0; steps = announcement (x .graph) (operationsIn (y .program)) } → c ≡ checkOf gra rel
     unfolding checkOf checked
-    all-read i e = e ∙ rw (graph-held gra x p h .1, program-held (x .graph .k) rel y q i .1)
+    all-read i e = e ∙ rw (graph-held gra p h .1, program-held (x .graph .k) rel q i .1)
 
 -- what both readers accepted is legal
 pub both-legal : (gra rel : List ℕ) (x : GraphRead) (y : ProgramRead) → ((i : ℕ) → Fits w8 (getD gra i 0)) → ((i : ℕ) → Fits w8 (getD rel i 0))
     → x ≡ graphRead (graphFile gra 0) → x .outcome ≡ Accepted → y ≡ programRead (programFile (x .graph .k) rel 0) → y .outcome ≡ Accepted → Legal (x .graph) (y .program)
 both-legal gra rel x y a b p h q i =
-    let program = program-read (λ i. b i .fits) (program-held (x .graph .k) rel y q i .1) .0 in
-    record {
-      graph = graph-read gra (λ i. a i .fits) (x .graph) _ (graph-held gra x p h .1) .0;
-      program = program;
-      count = rw (program-count (x .graph .k) rel y q) (program .most-steps);
-    }
+    let program = program-legal (x .graph .k) rel q b i in
+    record { graph = graph-legal gra p a h; program = program; count = rw (← program-count (x .graph .k) rel q) (program .most-steps) }
 
 -- the check's answer shows what is announced for each step, and nothing past the end
 pub check-shows : (gra rel : List ℕ) {g : Graph} {os : List Operation} {m n : ℕ} → LegalGraph g → graphFile gra 0 ≡ got g m → programFile (g .k) rel 0 ≡ got os n

@@ -16,8 +16,8 @@ use Rattle.meaning.proofs.Sets.{below-suc}
 use Rattle.meaning.proofs.KindSets.{edge-types}
 use Rattle.meaning.proofs.Views.{rule-first}
 use Rattle.fields.specs.Read.{got}
-use Rattle.fields.specs.Write.{byteOf, headerOf}
-use Rattle.fields.proofs.Formats.{Bytes, Reads, Takes, reads-bind, reads-header, reads-file, accepts-weaken, takes-bind, takes-header, takes-file}
+use Rattle.fields.specs.Write.{Bytes, byteOf, headerOf}
+use Rattle.fields.proofs.Formats.{Reads, Takes, reads-bind, reads-header, reads-file, accepts-weaken, takes-bind, takes-header, takes-file}
 use Rattle.document.specs.Tre.{Open, nothingOpen, pushed, popped, document, documentFile, closes, openOf, tokensOf, documentBytes}
 use Rattle.document.proofs.Runs.{opens, shuts, Run, last, more, tokens-accept, tokens-read}
 use Rattle.document.proofs.Climbs.{Up, here, up, up-parent, closes-none, closes-one, up-least, closes-parent, rule-in, parent-less, rule-up, root-up}

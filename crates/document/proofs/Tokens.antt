@@ -1,13 +1,12 @@
 -- One law for each return of the functions that read one token.
-use Prim.Native.Nat.{ℕ, zero, suc, _+_, _-_, _≤_, _<_}
+use Prim.Native.Nat.{ℕ, suc, _+_, _-_, _≤_, _<_}
 use mathlib.Core.Path.{_≡_, refl, sym, ap, _∙_}
 use mathlib.Core.Bool.{Bool, true, false, not}
-use mathlib.Core.List.{List, [], _∷_, _++_, map, append-assoc}
-use native.Mathlib.Nat.{not-suc-le-zero, le-of-suc-le-suc}
+use mathlib.Core.List.{List, [], _∷_, _++_, append-assoc}
 use native.Mathlib.Numerals.{add-one}
 use native.Mathlib.Omega.{arith}
 use lib.Dec.{ltb}
-use lib.ListN.{length, getD, set, replicate, List·getD-eq-default, length-map, length-append}
+use lib.ListN.{length, set, length-append}
 use lib.Seq.{set-append-seam}
 use borrow.Author.Needs.{needs}
 use borrow.Author.Tests.{lt-ltb, le-ltb, eq-eqb, ne-eqb, not-true, not-false}
@@ -19,57 +18,18 @@ use Rattle.meaning.specs.declared.Reason.{Reason}
 use Rattle.meaning.specs.declared.Reason.the-variants.{Bound, Code, Kind, Edge}
 use Rattle.meaning.specs.Limits.{elementLimit}
 use Rattle.meaning.specs.Graphs.{childKind}
-use Rattle.meaning.specs.Documents.{node, documentNode}
+use Rattle.meaning.specs.Documents.{node}
 use Rattle.meaning.specs.Records.{documentOf}
 use Rattle.fields.specs.declared.Cursor.{Cursor}
 use Rattle.fields.specs.declared.Field.{Field}
 use Rattle.fields.specs.declared.Field.the-variants.{Got, Refused}
 use Rattle.fields.specs.Read.{Read, refused, judge, readOf, byte, word}
 use Rattle.fields.proofs.Laws.{taken, handed}
+use Rattle.fields.proofs.Nodes.{node-padded}
 use Rattle.document.specs.declared.Standing.{Standing}
 use Rattle.document.specs.declared.Turn.{Turn}
 use Rattle.document.specs.Tre.{Open, pushed, popped, opened, closed, token}
 use Rattle.document.specs.States.{standingOf, nextOf, turnOf}
-
--- within a list it does not matter what stands past its end
-getD-within : {A : Type 0} (l : List A) (i : ℕ) (a b : A) → i < length l → getD l i a ≡ getD l i b
-getD-within [] i a b h = absurd (not-suc-le-zero h)
-getD-within (x ∷ l) zero a b h = refl
-getD-within (x ∷ l) (suc i) a b h = getD-within l i a b (le-of-suc-le-suc h)
-
--- an array is as long as what its elements are made of
-pub array-full : {A B : Type 0} (l : List A) (f : A → B) {n : ℕ} → length (map f l) ≡ n → length l ≡ n
-array-full l f h = sym (length-map l f) ∙ h
-
-module _ (es : List Element) where
-  pub node-zero : (v : ℕ) → v ≡ 0 → documentNode ≡ node es v
-  unfolding node
-  node-zero zero z = refl
-  node-zero (suc i) z = absurd (omega arith)
-
-  module _ (full : length es ≡ elementLimit) where
-    pub node-past : (v : ℕ) → elementLimit < v → documentNode ≡ node es v
-    unfolding node
-    node-past zero l = refl
-    node-past (suc i) l = sym (List·getD-eq-default es documentNode (omega arith))
-
-    pub node-held : (v : ℕ) (d : Element) → (v ≡ 0 → ⊥) → v ≤ elementLimit → getD es (v - 1) d ≡ node es v
-    unfolding node
-    node-held zero d n l = absurd (n refl)
-    node-held (suc i) d n l = let h : suc i - 1 ≡ i = omega arith in rw h (getD-within es i d documentNode (omega arith))
-
--- blank places past the elements change no node
-node-padded : (es : List Element) (k v : ℕ) → node (es ++ replicate k documentNode) v ≡ node es v
-unfolding node
-node-padded es k zero = refl
-node-padded es k (suc i) = padded es k i
-  where
-    padded : (es : List Element) (k i : ℕ) → getD (es ++ replicate k documentNode) i documentNode ≡ getD es i documentNode
-    padded [] zero i = refl
-    padded [] (suc k) zero = refl
-    padded [] (suc k) (suc i) = padded [] k i
-    padded (e ∷ es) k zero = refl
-    padded (e ∷ es) k (suc i) = padded es k i
 
 -- a further element fills the first blank place
 document-longer : (es : List Element) (e : Element) → length es < elementLimit
@@ -197,10 +157,6 @@ module _ (o : Open) {st : Standing} (h : st ≡ standingOf o) where
       token-unknown i j e u = stops e u (simp (taken p q, ne-eqb code 0x01 i, ne-eqb code 0x02 j))
 
 pub ruleset laws = (
-  array-full,
-  node-zero,
-  node-past,
-  node-held,
   takes-edge,
   push-is,
   opened-full,

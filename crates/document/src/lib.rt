@@ -10,9 +10,9 @@ ghost use Rattle.fields.specs.Outcomes.{documentRead};
 ghost use Rattle.document.specs.Tre.{pushed, opened, closed, token, documentFile};
 ghost use Rattle.document.specs.States.{standingOf, openIn, Kept, turnOf};
 use fields::Cursor;
-use fields::DOCUMENT_NODE;
 use fields::Field;
 use fields::blank;
+use fields::node_at;
 use fields::turned_away;
 use meaning::Document;
 use meaning::DocumentRead;
@@ -23,21 +23,6 @@ use meaning::Reason;
 
 // Elements of a document.
 const LIMIT: usize = 127;
-
-// Node v. Past the last element the places are blank, as the document node is.
-fn node_at(document: Document, v: u8) -> Element
-    ensures { λ r. ⌜ r ≡ node (document .elements) v ⌝ }
-{
-    let number = v as usize;
-    if number == 0 {
-        return DOCUMENT_NODE;
-    }
-    if LIMIT < number {
-        return DOCUMENT_NODE;
-    }
-    let i = number - 1;
-    document.elements[i]
-}
 
 // Where reading stands: the elements opened so far, and the innermost that is open.
 struct Standing {

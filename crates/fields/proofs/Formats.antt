@@ -15,11 +15,7 @@ use Rattle.meaning.specs.declared.Reason.the-variants.{Ended, Mark, Version, Ex
 use Rattle.meaning.specs.declared.Refusal.{Refusal}
 use Rattle.meaning.proofs.Tests.{and-left, and-right}
 use Rattle.fields.specs.Read.{Read, Reader, got, refused, bind, pick, give, refuse, judge, _>>=_, _>>_, byte, word, mark, header, end}
-use Rattle.fields.specs.Write.{byteOf, wordOf, headerOf}
-
--- every element is a byte
-abbrev pub Bytes : List ℕ → Type 0
-Bytes s = (i : ℕ) → getD s i 0 < 256
+use Rattle.fields.specs.Write.{Bytes, byteOf, wordOf, headerOf}
 
 -- wherever m meets the bytes e, it gives x and goes on behind them
 pub record Reads {A : Type 0} (m : Reader A) (e : List ℕ) (x : A) : Type 0 where

@@ -3,6 +3,7 @@ ghost use mathlib.Core.Path.{_≡_};
 ghost use Prim.Native.Nat.{_+_, _*_, _-_};
 ghost use lib.ListN.{length};
 ghost use mathlib.Core.List.{[]};
+ghost use Rattle.meaning.specs.Documents.{node};
 ghost use Rattle.meaning.specs.Records.{documentOf};
 ghost use Rattle.fields.specs.Outcomes.{outcomeOf, awayOf};
 ghost use Rattle.fields.specs.Read.{readOf, passed, byte, word, mark, header, end};
@@ -53,6 +54,9 @@ pub fn outcome(field: Field) -> Outcome
     }
 }
 
+// How many elements a document has places for.
+const LIMIT: usize = 127;
+
 // The document node, which also stands for every element that there isn't.
 pub const DOCUMENT_NODE: Element = Element {
     parent: 0,
@@ -60,13 +64,28 @@ pub const DOCUMENT_NODE: Element = Element {
     text: 0,
 };
 
+// Node v. Past the last element the places are blank, as the document node is.
+pub fn node_at(document: Document, v: u8) -> Element
+    ensures { λ r. ⌜ r ≡ node (document .elements) v ⌝ }
+{
+    let number = v as usize;
+    if number == 0 {
+        return DOCUMENT_NODE;
+    }
+    if LIMIT < number {
+        return DOCUMENT_NODE;
+    }
+    let i = number - 1;
+    document.elements[i]
+}
+
 // A document with no elements.
 pub fn blank() -> Document
     ensures { λ r. ⌜ r ≡ documentOf [] ⌝ }
 {
     Document {
         count: 0,
-        elements: [DOCUMENT_NODE; 127],
+        elements: [DOCUMENT_NODE; LIMIT],
     }
 }
 

@@ -16,7 +16,8 @@ use Rattle.meaning.specs.Sets.{bit}
 use Rattle.meaning.specs.Graphs.{LegalGraph}
 use Rattle.meaning.proofs.Tests.{never, and-in, and-left, and-right}
 use Rattle.fields.specs.Read.{got}
-use Rattle.fields.proofs.Formats.{Bytes, Reads, Takes, reads-bind, reads-last, reads-give, reads-judge, reads-byte, reads-word, reads-header, reads-file, accepts-give, takes-bind, takes-judge, takes-byte, takes-word, takes-header, takes-file}
+use Rattle.fields.specs.Write.{Bytes}
+use Rattle.fields.proofs.Formats.{Reads, Takes, reads-bind, reads-last, reads-give, reads-judge, reads-byte, reads-word, reads-header, reads-file, accepts-give, takes-bind, takes-judge, takes-byte, takes-word, takes-header, takes-file}
 use Rattle.graph.specs.Gra.{masks, typesRead, graph, graphFile, wordsOf, graphBytes}
 use Rattle.meaning.proofs.Bits.{bits-below, below-bits}
 use Rattle.meaning.proofs.Sets.{bit-none}

@@ -3,3 +3,4 @@ pub mod MaskReading
 pub mod Reading
 pub mod KindMasks
 pub mod File
+pub mod Held

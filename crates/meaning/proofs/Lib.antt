@@ -1,6 +1,7 @@
 pub mod Example
 pub mod Tests
 pub mod Sets
+pub mod Listed
 pub mod Bits
 pub mod Closure
 pub mod Ends

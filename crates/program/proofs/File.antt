@@ -15,8 +15,8 @@ use Rattle.meaning.specs.Limits.{stepLimit, words}
 use Rattle.meaning.specs.Operations.{LegalOperation, LegalProgram}
 use Rattle.meaning.proofs.Sets.{below-suc}
 use Rattle.fields.specs.Read.{Reader, got, give, _>>=_}
-use Rattle.fields.specs.Write.{byteOf}
-use Rattle.fields.proofs.Formats.{Bytes, Reads, Accepts, Takes, reads-bind, reads-last, reads-give, reads-judge, reads-byte, reads-word, reads-header, reads-file, accepts-give, takes-bind, takes-weaken, takes-judge, takes-byte, takes-word, takes-header, takes-file}
+use Rattle.fields.specs.Write.{Bytes, byteOf}
+use Rattle.fields.proofs.Formats.{Reads, Accepts, Takes, reads-bind, reads-last, reads-give, reads-judge, reads-byte, reads-word, reads-header, reads-file, accepts-give, takes-bind, takes-weaken, takes-judge, takes-byte, takes-word, takes-header, takes-file}
 use Rattle.meaning.proofs.Bits.{bits-below, below-bits}
 use Rattle.program.specs.declared.Layout.{Layout}
 use Rattle.program.specs.declared.Layout.the-variants.{Zeros, Single, Pair, Number, Mask}

@@ -7,8 +7,8 @@ use lib.ListN.{length}
 use Rattle.meaning.specs.Limits.{queryLimit}
 use Rattle.meaning.specs.Queries.{XPath, queryNodes, LegalPath}
 use Rattle.fields.specs.Read.{Read, got, header, _>>_}
-use Rattle.fields.specs.Write.{headerOf}
-use Rattle.fields.proofs.Formats.{Bytes, Takes, takes-bind, takes-header, takes-file, accepts-weaken, reads-bind, reads-header, reads-file, refused-out}
+use Rattle.fields.specs.Write.{Bytes, headerOf}
+use Rattle.fields.proofs.Formats.{Takes, takes-bind, takes-header, takes-file, accepts-weaken, reads-bind, reads-header, reads-file, refused-out}
 use Rattle.query.specs.Qry.{path, part, queryFile, queryBytes}
 use Rattle.query.proofs.Parts.{Counted, counted, ended, part-right, query-counted}
 use Rattle.query.proofs.Written.{path-written}

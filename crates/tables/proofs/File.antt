@@ -18,8 +18,8 @@ use Rattle.meaning.specs.Documents.{documentNode, node, view, parentRule, edgeR
 use Rattle.meaning.proofs.KindSets.{edge-types}
 use Rattle.meaning.proofs.Views.{accepted-keeps}
 use Rattle.fields.specs.Read.{got, pick}
-use Rattle.fields.specs.Write.{byteOf, headerOf}
-use Rattle.fields.proofs.Formats.{Bytes, Reads, Accepts, Takes, reads-bind, reads-last, takes-bind, takes-weaken, accepts-bind, accepts-give, accepts-ended, reads-give, reads-judge, reads-byte, reads-word, reads-header, reads-ended, takes-judge, takes-byte, takes-word, takes-header}
+use Rattle.fields.specs.Write.{Bytes, byteOf, headerOf}
+use Rattle.fields.proofs.Formats.{Reads, Accepts, Takes, reads-bind, reads-last, takes-bind, takes-weaken, accepts-bind, accepts-give, accepts-ended, reads-give, reads-judge, reads-byte, reads-word, reads-header, reads-ended, takes-judge, takes-byte, takes-word, takes-header}
 use Rattle.tables.specs.declared.Row.{Row}
 use Rattle.tables.specs.Edg.{rowRule, rowRead, rowsRead, tablesRead, rowsFile, times, eachOnce, elementsOf, elementJudged, elementsJudged, whole, tablesFile, rowsOf, rowBytes, rowsBytes, tableBytes, tablesOf, tablesBytes}
 use Rattle.tables.specs.Kept.{GoodRow}
@@ -219,7 +219,7 @@ module _ (limit : ℕ) (g : Graph) where
       accepts-ended {f = whole limit g} {Q = λ x b. Accepted limit g x × (b ≡ tablesBytes g x)} s (accepts-rows limit g) accepts-whole bytes h .0
 
 -- The rows of the tables of n types from type t on.
-tabled : List Element → ℕ → ℕ → List Row
+unfoldable pub tabled : List Element → ℕ → ℕ → List Row
 tabled es t zero = []
 tabled es t (suc n) = rowsOf t 1 es ++ tabled es (suc t) n
 
@@ -290,6 +290,10 @@ module _ {limit : ℕ} {g : Graph} {es : List Element} (legal : LegalGraph g) (a
 
   rows-count : length rows ≡ length es
   rows-count = once-count (length es) rows-good (once-in (length es) rows rows-once)
+
+  pub tabled-count : length (tabled es 0 (g .k)) ≡ length es
+  unfolding rows
+  tabled-count = rows-count
 
   each-once : eachOnce (length rows) rows ≡ true
   each-once = once-in (length rows) rows (λ j l. rows-once j (omega (arith, rows-count)))

@@ -4,7 +4,7 @@ use mathlib.Core.Path.{_≡_, sym, _∙_}
 use mathlib.Core.List.{List}
 use Rattle.meaning.specs.declared.Graph.{Graph}
 use Rattle.fields.specs.Read.{Reader, got}
-use Rattle.fields.proofs.Formats.{Bytes}
+use Rattle.fields.specs.Write.{Bytes}
 use Rattle.graph.specs.Gra.{graphFile, graphBytes}
 use Rattle.graph.proofs.File.{graph-read}
 use Rattle.document.specs.Tre.{documentFile, documentBytes}

@@ -4,10 +4,9 @@ use native.Mathlib.Omega.{arith}
 use mathlib.Core.Path.{_≡_, refl, sym, ap, _∙_}
 use mathlib.Core.List.{List, [], _∷_, _++_, append-assoc}
 use lib.ListN.{length, take, drop, set, length-append, length-drop}
-use lib.Seq.{length-take-le, take-at, drop-append-add, drop-drop, sets-eq, paste-zero}
+use lib.Seq.{length-take-le, take-at, drop-append-add, drop-drop, sets-eq, paste-zero, take-append-seam}
 use borrow.Author.Needs.{needs}
 use Rattle.meaning.specs.declared.Refusal.{Refusal}
-use Rattle.meaning.specs.declared.Answer.{Answer}
 use Rattle.meaning.specs.Refused.{numberOf}
 use Rattle.fields.specs.Write.{byteOf, wordOf, headerOf}
 use Rattle.writing.specs.Lent.{over, turnedAway}
@@ -29,6 +28,11 @@ over-more at bs cs old h =
     ∙ ap (λ n. p ++ cs ++ drop (n + length cs) (p ++ rest)) (sym here)
     ∙ ap (λ x. p ++ cs ++ x) (drop-append-add p rest (length cs) ∙ drop-drop (length cs) (at + length bs) old ∙ ap (λ n. drop n old) far)
     ∙ ap (λ x. x ++ drop (at + length (bs ++ cs)) old) (append-assoc (take at old) bs cs)
+
+-- what was written at the start is what stands there
+pub over-front : (bs old : List ℕ) → take (length bs) (over 0 bs old) ≡ bs
+unfolding over
+over-front bs old = take-append-seam bs (drop (0 + length bs) old)
 
 pub over-length : (at : ℕ) (bs old : List ℕ) → at + length bs ≤ length old → length (over at bs old) ≡ length old
 unfolding over

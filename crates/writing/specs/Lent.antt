@@ -44,3 +44,7 @@ lent (refused r) out = untouched r out
 -- the answer and the buffer are these
 abbrev pub Leaves : Lent → Answer → List ℕ → Type 0
 Leaves l answer out = l ≡ record { answer = answer; bytes = out }
+
+-- the file that a call wrote: as many bytes as it answers
+abbrev pub fileIn : Lent → List ℕ
+fileIn l = take (l .answer .count) (l .bytes)

@@ -1,7 +1,7 @@
 -- Node 0 and the numbers past the places are blank; the others stand a place lower.
-use Rattle.document.proofs.Tokens.{laws}
-use Rattle.document.proofs.node_at.Statement.{statement}
-use Rattle.document.proofs.node_at.Tie as tie
+use Rattle.fields.proofs.Nodes.{laws}
+use Rattle.fields.proofs.node_at.Statement.{statement}
+use Rattle.fields.proofs.node_at.Tie as tie
 
 returns : tie.Need-returns
 returns c = search laws

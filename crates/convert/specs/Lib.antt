@@ -1,0 +1,5 @@
+-- The shredder and the rebuilder, and what is promised of the two together.
+pub mod Convert
+pub mod Shred
+pub mod Rebuild
+pub mod RoundTrips
