@@ -4,8 +4,8 @@ use mathlib.Core.Path.{_≡_, sym, ap, _∙_}
 use mathlib.Core.List.{List, [], _∷_, _++_, map, map-append}
 use native.Mathlib.Numerals.{add-one}
 use native.Mathlib.Omega.{arith}
-use lib.ListN.{length, getD, take, set, replicate, length-map, List·getD-map}
-use lib.Seq.{length-take-le, take-suc, drop-cons, getD-take}
+use lib.ListN.{length, getD, take, set, replicate, length-map}
+use lib.Seq.{length-take-le, take-suc}
 use borrow.Author.Needs.{needs}
 use Rattle.meaning.specs.declared.Graph.{Graph}
 use Rattle.meaning.specs.declared.Operation.{Operation}
@@ -16,7 +16,8 @@ use Rattle.meaning.specs.Limits.{kinds, stepLimit}
 use Rattle.meaning.specs.Relations.{Relation, nothing, at}
 use Rattle.meaning.specs.Operations.{LegalOperation, results}
 use Rattle.meaning.specs.Announcements.{pairs, announced}
-use Rattle.meaning.specs.Records.{blankStep, operationsIn}
+use Rattle.meaning.specs.Records.{operationsIn}
+use Rattle.meaning.proofs.Records.{operation-at}
 use Rattle.announce.specs.declared.Announced.{Announced}
 use Rattle.announce.specs.declared.Checked.{Checked}
 use Rattle.announce.specs.Pairs.{relOf, operandsOf, Legal}
@@ -60,10 +61,6 @@ operands-small k s (Has a) h l = (omega arith, omega arith)
 operands-small k s (Diff a b) h l = (omega (arith, h .0), omega (arith, h .1))
 operands-small k s (Both a b) h l = (omega (arith, h .0), omega (arith, h .1))
 
--- what stands at a place of a list does not depend on what would stand past its end
-there : {A : Type 0} (xs : List A) (i : ℕ) (d e : A) → i < length xs → getD xs i d ≡ getD xs i e
-there xs i d e l = cc (drop-cons xs i d l, drop-cons xs i e l)
-
 -- turn i: the operation o of step i reads the steps x and y
 module _ (g : Graph) (p : Program) (legal : Legal g p) (long : length (p .steps) ≡ stepLimit) {i : ℕ} (l : i < p .count) (d : Step) {x y : ℕ}
     (e : (x, y) ≡ operandsOf (getD (p .steps) i d .operation)) where
@@ -77,10 +74,7 @@ module _ (g : Graph) (p : Program) (legal : Legal g p) (long : length (p .steps)
   second-is = ap (λ (z : ℕ × ℕ). z .1) e
 
   in-program : getD (operationsIn p) i Itself ≡ o
-  unfolding operationsIn
-  in-program =
-      List·getD-map (λ s. s .operation) (take (p .count) (p .steps)) i blankStep
-      ∙ rw (getD-take (p .count) (p .steps) i blankStep, there (p .steps) i blankStep d (omega (arith, legal .count)))
+  in-program = operation-at p i d l (omega (arith, legal .count))
 
   small : (operandsOf o .0 < stepLimit) × (operandsOf o .1 < stepLimit)
   unfolding operationsIn

@@ -1,12 +1,20 @@
 -- What a record was made of is what it holds.
-use Prim.Native.Nat.{ℕ, suc}
+use Prim.Native.Nat.{ℕ, suc, _≤_, _<_}
 use mathlib.Core.Path.{_≡_, refl, ap, _∙_}
 use mathlib.Core.List.{List, [], _∷_, map}
-use lib.ListN.{length}
-use lib.Seq.{take-at}
+use native.Mathlib.Omega.{arith}
+use lib.ListN.{length, getD, take, List·getD-map}
+use lib.Seq.{take-at, getD-take, drop-cons}
 use Rattle.meaning.specs.declared.Element.{Element}
 use Rattle.meaning.specs.declared.Operation.{Operation}
-use Rattle.meaning.specs.Records.{documentOf, elementsIn, stepsFrom, programOf, operationsIn}
+use Rattle.meaning.specs.declared.Operation.the-variants.{Itself}
+use Rattle.meaning.specs.declared.Program.{Program}
+use Rattle.meaning.specs.declared.Step.{Step}
+use Rattle.meaning.specs.Records.{documentOf, elementsIn, blankStep, stepsFrom, programOf, operationsIn}
+
+-- what stands at a place of a list does not depend on what would stand past its end
+pub at-any : {A : Type 0} (xs : List A) (i : ℕ) (d e : A) → i < length xs → getD xs i d ≡ getD xs i e
+at-any xs i d e l = cc (drop-cons xs i d l, drop-cons xs i e l)
 
 pub document-holds : (es : List Element) → elementsIn (documentOf es) ≡ es
 unfolding elementsIn documentOf
@@ -25,3 +33,10 @@ steps-hold s (o ∷ os) = ap (λ l. o ∷ l) (steps-hold (suc s) os)
 pub program-holds : (os : List Operation) → operationsIn (programOf os) ≡ os
 unfolding operationsIn programOf
 program-holds os = ap (map (λ x. x .operation)) (take-at (stepsFrom 0 os) _ (length os) (steps-length 0 os)) ∙ steps-hold 0 os
+
+-- an operation of a program, as it is read of its steps
+pub operation-at : (p : Program) (i : ℕ) (d : Step) → i < p .count → p .count ≤ length (p .steps) → getD (operationsIn p) i Itself ≡ getD (p .steps) i d .operation
+unfolding operationsIn
+operation-at p i d l w =
+    List·getD-map (λ s. s .operation) (take (p .count) (p .steps)) i blankStep
+    ∙ rw (getD-take (p .count) (p .steps) i blankStep, at-any (p .steps) i blankStep d (omega arith))

@@ -56,7 +56,7 @@ module _ (g : Graph) (d : View) (keeps : Keeps g d) where
     longer = then-longer f (m .longer);
     made = λ os v w s t.
         ap (λ (q : Relation). q v w) (step-result d (f (last (a os))) (a os))
-        ∙ h (run d (a os)) (last (a os)) (run-nodes d g keeps (a os) (last (a os))) (m .made os) v w s t;
+        ∙ h (run d (a os)) (last (a os)) (run-nodes d (keeps .parent-there) (a os) (last (a os))) (m .made os) v w s t;
   }
 
   makes-both : {S T : ℕ → Type 0} {r s t : Relation} {a b : Adds} (f : ℕ → ℕ → Operation)
@@ -69,7 +69,7 @@ module _ (g : Graph) (d : View) (keeps : Keeps g d) where
         let p : List Operation = a os in
         let q : List Operation = b p in
         ap (λ (r : Relation). r v w) (step-result d (f (last p) (last q)) q)
-        ∙ h (run d q) (last p) (last q) (run-nodes d g keeps q (last p))
+        ∙ h (run d q) (last p) (last q) (run-nodes d (keeps .parent-there) q (last p))
         (λ v u sv tu. ap (λ (r : Relation). r v u) (run-keep d (mb .longer p) (last p) (last-new (ma .longer os) .1)) ∙ ma .made os v u sv tu)
         (mb .made p) v w sv tw;
   }
@@ -249,7 +249,7 @@ module _ (g : Graph) (legal : LegalGraph g) (d : View) (keeps : Keeps g d) where
   translated-right p =
       listed-cong (d .size) _ _ λ w l.
       same _ _
-      (λ h. let t : d .there w ≡ true = run-nodes d g keeps (translated g p) _ 0 w h .1 in and-in t (sym (from-root w t) ∙ h))
+      (λ h. let t : d .there w ≡ true = run-nodes d (keeps .parent-there) (translated g p) _ 0 w h .1 in and-in t (sym (from-root w t) ∙ h))
       (λ h. from-root w (and-left (d .there w) _ h) ∙ and-right (d .there w) _ h)
     where
       from-root : (w : ℕ) → d .there w ≡ true → at (run d (translated g p)) (last (translated g p)) 0 w ≡ reaches p d 0 w

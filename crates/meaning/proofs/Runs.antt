@@ -5,7 +5,6 @@ use mathlib.Core.Bool.{Bool, true, _&&_}
 use mathlib.Core.List.{List, [], _∷_, _++_, append-assoc}
 use native.Mathlib.Omega.{arith}
 use lib.ListN.{length, length-append}
-use Rattle.meaning.specs.declared.Graph.{Graph}
 use Rattle.meaning.specs.declared.Operation.{Operation}
 use Rattle.meaning.specs.declared.Operation.the-variants.{Table, Itself, Text, Join, Union, Closure, Has, Diff, Both}
 use Rattle.meaning.specs.Sets.{bit}
@@ -16,7 +15,7 @@ use Rattle.meaning.specs.Translation.{step}
 use Rattle.meaning.proofs.Tests.{never, and-left}
 use Rattle.meaning.proofs.Ends.{Ends, diagonal-ends, join-ends, unite-ends, has-ends, difference-ends, intersection-ends, closure-ends}
 use Rattle.meaning.proofs.Results.{results-append, results-length, results-keep, results-last, results-agree}
-use Rattle.meaning.proofs.Views.{Keeps, element-there, parent-element, parent-is, test-element}
+use Rattle.meaning.proofs.Views.{element-there, parent-element, parent-is, test-element}
 
 -- ps is os with one or more steps added
 pub record Longer (os ps : List Operation) : Type 0 where
@@ -69,12 +68,13 @@ module _ (d : View) where
       ap (λ l. at l (length (os ++ (o ∷ [])) - 1)) (results-append (rows d) [] os (o ∷ []))
       ∙ results-last (rows d) (run d os) o _ (run-length os ∙ omega (arith, length-append os (o ∷ [])))
 
-  module _ (g : Graph) (keeps : Keeps g d) where
+  -- The parent of an element is a node.
+  module _ (parents : (w : ℕ) → isElement d w ≡ true → d .there (d .parent w) ≡ true) where
     table-nodes : (f : ℕ → Bool) → OnNodes d (λ v w. isParent d v w && f w)
     table-nodes f v w h =
         let p : isParent d v w ≡ true = and-left (isParent d v w) (f w) h in
         let e : isElement d w ≡ true = parent-element d v w p in
-        (rw (parent-is d v w p) at (keeps .parent-there w e), element-there d w e)
+        (rw (parent-is d v w p) at (parents w e), element-there d w e)
 
     pub rows-nodes : (rs : List Relation) (o : Operation) → ((s : ℕ) → OnNodes d (at rs s)) → OnNodes d (rows d rs o)
     unfolding rows

@@ -128,7 +128,7 @@ module _ (g : Graph) (legal : LegalGraph g) where
     steps-announced os s =
         results-agree Announces (record { nodes = λ v w h. never h; live = λ v w h. never h; covers = λ v w h. never h }) (rows d) (pairs g)
         (λ rs ps o a. record {
-          nodes = rows-nodes d g keeps rs o (λ s. a s .nodes);
+          nodes = rows-nodes d (keeps .parent-there) rs o (λ s. a s .nodes);
           live = pairs-live ps o (λ s. a s .live);
           covers = covers-step rs ps o a;
         }) os s

@@ -1,18 +1,19 @@
 -- Laws of the answer: how many pass, by bytes, and the list of them, written one by one.
 use Prim.Native.Nat.{ℕ, zero, suc, _+_, _*_, _/_, _%_, _^_, _≤_, _<_, min}
-use mathlib.Core.Path.{_≡_, refl, sym, ap, ap₂, _∙_}
+use mathlib.Core.Path.{_≡_, refl, ap, ap₂, _∙_}
 use mathlib.Core.Bool.{Bool, true, false, cond}
-use mathlib.Core.List.{List, [], _∷_, _++_, append-assoc}
+use mathlib.Core.List.{List, [], _∷_, _++_}
 use native.Mathlib.Nat.{add-zero, add-suc, pow-suc}
-use native.Mathlib.Numerals.{add-one, one-add}
+use native.Mathlib.Numerals.{one-add}
 use native.Mathlib.Omega.{arith}
 use lib.Dec.{eqb}
 use lib.Count.{ones, ones-step}
-use lib.ListN.{length, getD, set, drop, length-append}
-use lib.Seq.{set-at, drop-cons}
+use lib.ListN.{length, getD, set, length-append}
 use Rattle.meaning.specs.Sets.{bit, listed}
 use Rattle.meaning.proofs.Sets.{listed-cong}
-use Rattle.runner.specs.Rooms.{inRow, Next, written, Listed}
+use Rattle.writing.specs.Put.{Put}
+use Rattle.writing.proofs.Puts.{put-nothing, put-then, put-byte, put-length}
+use Rattle.runner.specs.Rooms.{inRow, Next}
 use Rattle.runner.proofs.Bits.{digit}
 use Rattle.runner.proofs.Searches.{listed-still}
 
@@ -63,35 +64,25 @@ count-more row k {n} {r} a b =
     ap length (listed-cong 8 _ _ (λ i l. ap₂ (λ (x y : ℕ). bit (getD row x 0) y) (omega arith) (omega arith))) in
     omega (arith, a, b, bits, tally-split (8 * k) 8 (inRow row), ap (λ (x : ℕ). tally x (inRow row)) next)
 
-written-next : (vs old : List ℕ) (w : ℕ) → length vs < length old → set (written vs old) (length vs) w ≡ written (vs ++ (w ∷ [])) old
-unfolding written
-written-next vs old w l =
-    let e : length (vs ++ (w ∷ [])) ≡ suc (length vs) = length-append vs (w ∷ []) ∙ add-one (length vs) in
-    ap (λ (xs : List ℕ). set (vs ++ xs) (length vs) w) (drop-cons old (length vs) 0 l)
-    ∙ set-at vs _ (drop (suc (length vs)) old) w (length vs) refl
-    ∙ sym (append-assoc vs (w ∷ []) (drop (length (vs ++ (w ∷ []))) old) ∙ ap (λ (n : ℕ). vs ++ (w ∷ drop n old)) e)
-
 -- nothing written; one more, where w is the next that passes; and all
 module _ (size : ℕ) (f : ℕ → Bool) where
-  pub listing-none : {limit w : ℕ} (old : List ℕ) → Next limit f 0 w → Listed old old 0 (listed (min w size) f)
-  unfolding written listed
+  pub listing-none : {limit w : ℕ} (old : List ℕ) → Next limit f 0 w → Put 0 (listed (min w size) f) old old 0
+  unfolding listed
   listing-none {w = w} old n =
       let e : listed (min w size) f ≡ [] = listed-still 0 (min w size) f (omega arith) (λ x l m. n .none x l (omega arith)) in
-      record { count = sym (ap length e); list = sym (ap (λ (vs : List ℕ). vs ++ drop (length vs) old) e) }
+      rw e (put-nothing 0 old)
 
-  pub listing-more : {limit w v m : ℕ} {old new out : List ℕ} → Listed old new m (listed (min w size) f) → w < size → f w ≡ true → size ≤ length old
-      → Next limit f (w + 1) v → out ≡ set new m w → Listed old out (m + 1) (listed (min v size) f)
+  pub listing-more : {limit w v m : ℕ} {old new out : List ℕ} → Put 0 (listed (min w size) f) old new m → w < size → f w ≡ true → size ≤ length old
+      → Next limit f (w + 1) v → out ≡ set new m w → Put 0 (listed (min v size) f) old out (m + 1)
   unfolding listed
   listing-more {w = w} {v = v} {m = m} {old} {new} {out} s l h r n e =
       let at-w : min w size ≡ w = omega arith in
       let vs : List ℕ = listed w f in
-      let now : Listed old new m vs = rw at-w at s in
+      let now : Put 0 vs old new m = rw at-w at s in
+      let few : length vs ≤ w = tally-most w f in
       let past : listed (min v size) f ≡ vs ++ (w ∷ []) =
       listed-still (suc w) (min v size) f (omega (arith, n .ahead)) (λ x p q. n .none x (omega arith) (omega arith)) ∙ ap (λ (b : Bool). vs ++ cond b (w ∷ []) []) h in
-      rw past record {
-        count = ap (λ (k : ℕ). k + 1) (now .count) ∙ sym (length-append vs (w ∷ []));
-        list = e ∙ ap₂ (λ (xs : List ℕ) (k : ℕ). set xs k w) (now .list) (now .count) ∙ written-next vs old w (omega (arith, tally-most w f));
-      }
+      rw (past, e) (put-then (omega arith) now (put-byte m w new (omega (arith, now .behind, put-length (omega arith) now))))
 
-  pub listing-all : {m : ℕ} {old new : List ℕ} (w : ℕ) → size ≤ w → Listed old new m (listed (min w size) f) → Listed old new m (listed size f)
+  pub listing-all : {m : ℕ} {old new : List ℕ} (w : ℕ) → size ≤ w → Put 0 (listed (min w size) f) old new m → Put 0 (listed size f) old new m
   listing-all w l s = let e : min w size ≡ size = omega arith in rw e at s

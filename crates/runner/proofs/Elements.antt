@@ -1,8 +1,8 @@
 -- The rooms that are made of a document: an element as it is read, and the turns of the two loops over elements.
 use Prim.Native.Nat.{ℕ, zero, suc, _+_, _-_, _*_, _≤_, _<_}
-use mathlib.Core.Path.{_≡_, refl, sym, ap, ap₂, _∙_}
+use mathlib.Core.Path.{_≡_, sym, ap, ap₂, _∙_}
 use mathlib.Core.Bool.{Bool, true, false, _&&_, and-false, and-comm}
-use mathlib.Core.List.{List, [], _∷_}
+use mathlib.Core.List.{List, []}
 use native.Mathlib.Omega.{arith}
 use borrow.Author.Tests.{lt-ltb, le-leb, leb-true}
 use lib.Dec.{eqb}
@@ -17,17 +17,12 @@ use Rattle.meaning.specs.Limits.{types}
 use Rattle.meaning.specs.Documents.{documentNode, isElement, isParent, textTest, view, node}
 use Rattle.meaning.specs.Operations.{rows}
 use Rattle.meaning.specs.Records.{elementsIn}
+use Rattle.meaning.proofs.Records.{at-any}
 use Rattle.meaning.proofs.Tests.{and-in, and-left, and-right}
 use Rattle.meaning.proofs.Views.{element-there, parent-element, test-element}
 use Rattle.runner.specs.Rooms.{inRow, including, stretch, upTo, diagonal, RowMade, Made}
 use Rattle.runner.specs.Ready.{shown, Nodes}
 use Rattle.runner.proofs.Rooms.{columns, columns-first, columns-all, columns-more, upTo-all, rows-first, diagonal-more, made-after, made-as}
-
--- the same element, whatever stands past the end
-at-any : {A : Type 0} (l : List A) (i : ℕ) (a b : A) → i < length l → getD l i a ≡ getD l i b
-at-any [] i a b h = absurd (omega arith)
-at-any (x ∷ l) zero a b h = refl
-at-any (x ∷ l) (suc i) a b h = at-any l i a b (omega arith)
 
 -- what a read past the end would give
 abbrev blank : Element

@@ -9,3 +9,10 @@ pub mod Turns
 pub mod Elements
 pub mod Sweeps
 pub mod Closings
+pub mod Layouts
+pub mod Steps
+pub mod Performing
+pub mod Outcomes
+pub mod Prepared
+pub mod Files
+pub mod Theorems

@@ -1,4 +1,6 @@
 pub mod Layout
 pub mod Rooms
 pub mod Ready
+pub mod Steps
 pub mod Run
+pub mod Promises

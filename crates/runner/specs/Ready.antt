@@ -1,16 +1,14 @@
 -- What the runner's core asks of what was read. All of it holds of every accepted document and every legal program.
-use Prim.Native.Nat.{ℕ, _*_, _<_, _≤_}
+use Prim.Native.Nat.{ℕ, _<_, _≤_}
 use mathlib.Core.Path.{_≡_}
 use mathlib.Core.Bool.{true}
-use lib.ListN.{length, getD}
+use lib.ListN.{length}
 use Rattle.meaning.specs.declared.Document.{Document}
 use Rattle.meaning.specs.declared.Program.{Program}
-use Rattle.meaning.specs.declared.Operation.the-variants.{Itself}
 use Rattle.meaning.specs.Limits.{types, elementLimit, stepLimit}
 use Rattle.meaning.specs.Documents.{View, isElement, view}
-use Rattle.meaning.specs.Operations.{LegalOperation}
+use Rattle.meaning.specs.Operations.{LegalProgram}
 use Rattle.meaning.specs.Records.{elementsIn, operationsIn}
-use Rattle.runner.specs.Layout.{roomBytes}
 
 -- what a document shows
 abbrev pub shown : Document → View
@@ -23,11 +21,9 @@ pub record Nodes (document : Document) : Type 0 where
   pub parents : (w : ℕ) → isElement (shown document) w ≡ true → shown document .there (shown document .parent w) ≡ true
   pub kinds : (w : ℕ) → isElement (shown document) w ≡ true → shown document .kind w < types
 
--- it holds as many steps as it counts, an operand is an earlier step, and there is a room for each step
-pub record Ready (document : Document) (program : Program) (bytes : ℕ) : Type 0 where
+-- it holds as many steps as it counts, and they are a legal program
+pub record Ready (document : Document) (program : Program) : Type 0 where
   pub nodes : Nodes document
   pub whole : length (operationsIn program) ≡ program .count
-  pub few : program .count ≤ stepLimit
   pub k : ℕ
-  pub operations : (s : ℕ) → s < program .count → LegalOperation k s (getD (operationsIn program) s Itself)
-  pub room : roomBytes * program .count ≤ bytes
+  pub legal : LegalProgram stepLimit k (operationsIn program)

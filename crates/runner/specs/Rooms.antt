@@ -3,7 +3,7 @@
 use Prim.Native.Nat.{ℕ, _+_, _*_, _/_, _%_, _≤_, _<_}
 use mathlib.Core.Path.{_≡_}
 use mathlib.Core.Bool.{Bool, true, false, not, _&&_, _||_}
-use mathlib.Core.List.{List, _++_}
+use mathlib.Core.List.{List}
 use lib.Dec.{eqb, ltb}
 use lib.ListN.{length, getD, take, drop}
 use Rattle.meaning.specs.Sets.{any, bit, mask}
@@ -124,12 +124,3 @@ pub record Next (limit : ℕ) (f : ℕ → Bool) (from r : ℕ) : Type 0 where
   pub most : r ≤ limit
   pub none : (x : ℕ) → from ≤ x → x < r → f x ≡ false
   pub found : r < limit → f r ≡ true
-
--- a list stands in front, and all else stays
-unfoldable pub written : List ℕ → List ℕ → List ℕ
-written vs old = vs ++ drop (length vs) old
-
--- a list was written, and this is how long it is
-pub record Listed (old new : List ℕ) (r : ℕ) (vs : List ℕ) : Type 0 where
-  pub count : r ≡ length vs
-  pub list : new ≡ written vs old

@@ -1,6 +1,7 @@
 -- A run: judged the graph, the tables, the program, then the room. It leaves every step's rows in the work area and the
 -- nodes selected in the answer's buffer.
 use Prim.Native.Nat.{ℕ, _*_}
+use mathlib.Core.Path.{_≡_}
 use mathlib.Core.Bool.{_&&_}
 use mathlib.Core.List.{List}
 use lib.Dec.{leb}
@@ -55,3 +56,7 @@ runOf gra edg rel out work =
     (bind (graphFile gra 0) λ g _. bind (tablesFile elementLimit g edg 0) λ es _. bind (programFile (g .k) rel 0) λ os at. got (view es, os) at)
     out
     work
+
+-- the answer and both buffers are these
+abbrev pub Gives : Ran → Answer → List ℕ → List ℕ → Type 0
+Gives e answer out work = e ≡ record { answer = answer; out = out; work = work }

@@ -3,7 +3,8 @@ ghost use mathlib.Core.Path.{_≡_};
 ghost use Prim.Native.Nat.{_+_, _≤_, _<_};
 ghost use Rattle.meaning.specs.Sets.{bit, listed};
 ghost use lib.ListN.{length};
-ghost use Rattle.runner.specs.Rooms.{inRow, stretch, rowsAt, Bits, including, gathered, mixes, mixedByte, Lowest, RowMade, Next, written};
+ghost use Rattle.runner.specs.Rooms.{inRow, stretch, rowsAt, Bits, including, gathered, mixes, mixedByte, Lowest, RowMade, Next};
+ghost use Rattle.writing.specs.Lent.{over};
 
 fn wide(byte: u8) -> u32
     ensures { λ r. ⌜ (r ≡ byte) × (r < 256) ⌝ }
@@ -145,7 +146,7 @@ pub(crate) fn count(row: [u8; 16]) -> u32
 // Lists the w of a row that are below size, ascending.
 pub(crate) fn list(row: [u8; 16], size: usize, out: &mut [u8])
     requires { ⌜ (size ≤ 128) × (size ≤ length (now out)) ⌝ }
-    ensures { λ r. ⌜ now (out .exit) ≡ written (listed size (inRow row)) (now (out .entry)) ⌝ }
+    ensures { λ r. ⌜ now (out .exit) ≡ over 0 (listed size (inRow row)) (now (out .entry)) ⌝ }
 {
     let mut m: usize = 0;
     let mut w = next(row, 0);

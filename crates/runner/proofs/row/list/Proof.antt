@@ -4,7 +4,8 @@ use mathlib.Core.Path.{_≡_, refl}
 use mathlib.Core.Bool.{true}
 use lib.ListN.{length}
 use Rattle.meaning.specs.Sets.{listed}
-use Rattle.runner.specs.Rooms.{inRow, Listed}
+use Rattle.writing.specs.Put.{Put}
+use Rattle.runner.specs.Rooms.{inRow}
 use borrow.Author.Needs.{needs}
 use Rattle.runner.proofs.Answers.{listing-none, listing-more, listing-all}
 use Rattle.runner.proofs.row.list.Statement.{statement}
@@ -14,7 +15,7 @@ use Rattle.runner.proofs.row.list.Lts as lts
 use Rattle.runner.proofs.row.next.Reads as next-reads
 
 abbrev Inv-loop : tie.InvT-loop
-Inv-loop row size out₀ m₀ w₀ out m w = (w ≤ 128) × (m ≤ w) × (length out ≡ length out₀) × (w < 128 → inRow row w ≡ true) × Listed out₀ out m (listed (min w size) (inRow row))
+Inv-loop row size out₀ m₀ w₀ out m w = (w ≤ 128) × (m ≤ w) × (length out ≡ length out₀) × (w < 128 → inRow row w ≡ true) × Put 0 (listed (min w size) (inRow row)) out₀ out m
 
 abbrev μ-loop : tie.MeasureT-loop
 μ-loop row size out₀ m₀ w₀ out m w = 128 - w
@@ -59,7 +60,7 @@ same-length : tie.Need-same-length Inv-loop μ-loop
 same-length c = search needs
 
 returns : tie.Need-returns Inv-loop μ-loop
-returns c = listing-all _ _ _ (c .loop-test .left) (c .before .loop .inv .4) .list
+returns c = listing-all _ _ _ (c .loop-test .left) (c .before .loop .inv .4) .there
 
 pub list-spec : {M : Type 1} → statement M
 list-spec =

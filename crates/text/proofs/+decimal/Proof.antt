@@ -1,0 +1,73 @@
+-- The digits of a tenth, and the last one behind them.
+use Prim.Native.Nat.{ℕ, _<_}
+use Rattle.text.proofs.Numbers.{laws}
+use borrow.Fn.Kinds.{In}
+use borrow.Fn.PlainCycle.{Measures, is, falls, and}
+use Rattle.text.proofs.decimal.Reads as decimal
+use Rattle.text.proofs.decimal.Kinds as decimal-kinds
+use Rattle.text.proofs.+decimal.Lts-decimal as decimal-lts
+use Rattle.text.proofs.digit.Reads as digit-reads
+use Rattle.writing.proofs.byte.Reads as byte-reads
+use Rattle.text.proofs.+decimal.{statement}
+use Rattle.text.proofs.+decimal.Tie.{close}
+
+abbrev μ-decimal : Measures 1 decimal-kinds.ps ℕ
+μ-decimal κs a = a .1 .1 .0
+
+abbrev decimal-at : ℕ → In 1 decimal-kinds.ps
+decimal-at t = and 1 decimal-kinds.ps (is 1 decimal-kinds.ps μ-decimal t) decimal.Pre
+
+abbrev decimal-below : ℕ → In 1 decimal-kinds.ps
+decimal-below t = and 1 decimal-kinds.ps (falls 1 decimal-kinds.ps _<_ μ-decimal t) decimal.Pre
+
+-- What `decimal` knows of the functions that it calls.
+abbrev decimal-calls : ℕ → decimal-lts.Claims
+decimal-calls t = (
+  digit-reads.Asked,
+  digit-reads.Learnt,
+  byte-reads.Asked,
+  byte-reads.Learnt,
+  decimal-below t,
+  decimal.Post,
+)
+
+decimal-digit-requires : (t : ℕ) → decimal-lts.Need-digit-requires (decimal-calls t) (decimal-at t) decimal.Post
+decimal-digit-requires t c κs = search laws
+
+decimal-byte-requires : (t : ℕ) → decimal-lts.Need-byte-requires (decimal-calls t) (decimal-at t) decimal.Post
+decimal-byte-requires t c κs = search laws
+
+decimal-same-length : (t : ℕ) → decimal-lts.Need-same-length (decimal-calls t) (decimal-at t) decimal.Post
+decimal-same-length t c = search laws
+
+decimal-returns : (t : ℕ) → decimal-lts.Need-returns (decimal-calls t) (decimal-at t) decimal.Post
+decimal-returns t c = search laws
+
+decimal-decimal-requires : (t : ℕ) → decimal-lts.Need-decimal-requires (decimal-calls t) (decimal-at t) decimal.Post
+decimal-decimal-requires t c κs = search laws
+
+decimal-digit-requires-2 : (t : ℕ) → decimal-lts.Need-digit-requires-2 (decimal-calls t) (decimal-at t) decimal.Post
+decimal-digit-requires-2 t c κs = search laws
+
+decimal-byte-requires-2 : (t : ℕ) → decimal-lts.Need-byte-requires-2 (decimal-calls t) (decimal-at t) decimal.Post
+decimal-byte-requires-2 t c κs = search laws
+
+decimal-same-length-2 : (t : ℕ) → decimal-lts.Need-same-length-2 (decimal-calls t) (decimal-at t) decimal.Post
+decimal-same-length-2 t c = search laws
+
+decimal-returns-2 : (t : ℕ) → decimal-lts.Need-returns-2 (decimal-calls t) (decimal-at t) decimal.Post
+decimal-returns-2 t c = search laws
+
+pub +decimal-spec : {M : Type 1} → statement M
++decimal-spec = close μ-decimal λ t. decimal-lts.spec (decimal-calls t)
+    (decimal-at t)
+    decimal.Post
+    (decimal-digit-requires t)
+    (decimal-byte-requires t)
+    (decimal-same-length t)
+    (decimal-returns t)
+    (decimal-decimal-requires t)
+    (decimal-digit-requires-2 t)
+    (decimal-byte-requires-2 t)
+    (decimal-same-length-2 t)
+    (decimal-returns-2 t)

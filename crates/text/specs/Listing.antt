@@ -1,0 +1,42 @@
+-- The listing: `selected` and the count, then a line of number, type and text number for each node; decimal numbers, one
+-- space between fields, byte 10 at the end of a line.
+use Prim.Native.Nat.{ℕ, zero, suc, _+_, _/_, _%_}
+use mathlib.Core.List.{List, [], _∷_, _++_}
+use lib.Dec.{ltb}
+use lib.ListN.{length}
+use Rattle.meaning.specs.Documents.{View}
+use Rattle.fields.specs.Read.{pick}
+use Rattle.fields.specs.Write.{byteOf}
+
+-- the digits of n, the highest first; the first number is at least how many there are
+unfoldable pub digits : ℕ → ℕ → List ℕ
+digits zero n = []
+digits (suc f) n = pick (ltb n 10) [] (digits f (n / 10)) ++ byteOf (48 + n % 10)
+
+unfoldable pub decimal : ℕ → List ℕ
+decimal n = digits (suc n) n
+
+abbrev pub space : List ℕ
+space = byteOf 32
+
+abbrev pub endOfLine : List ℕ
+endOfLine = byteOf 10
+
+-- `selected`
+abbrev pub selectedWord : List ℕ
+selectedWord = 115 ∷ 101 ∷ 108 ∷ 101 ∷ 99 ∷ 116 ∷ 101 ∷ 100 ∷ []
+
+-- `selected` and the count
+unfoldable pub firstLine : ℕ → List ℕ
+firstLine count = selectedWord ++ space ++ decimal count ++ endOfLine
+
+-- the document node's line is 0 16 0
+unfoldable pub line : View → ℕ → List ℕ
+line d v = decimal v ++ space ++ decimal (d .kind v) ++ space ++ decimal (d .text v) ++ endOfLine
+
+unfoldable pub lines : View → List ℕ → List ℕ
+lines d [] = []
+lines d (v ∷ vs) = line d v ++ lines d vs
+
+unfoldable pub listing : View → List ℕ → List ℕ
+listing d nodes = firstLine (length nodes) ++ lines d nodes
