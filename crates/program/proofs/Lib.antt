@@ -2,3 +2,4 @@ pub mod Laws
 pub mod Whole
 pub mod File
 pub mod Held
+pub mod Encoded

@@ -16,3 +16,13 @@ pub mod Outcomes
 pub mod Prepared
 pub mod Files
 pub mod Theorems
+pub mod GlanceLists
+pub mod GlanceReads
+pub mod GlanceSteps
+pub mod GlanceSets
+pub mod GlanceRounds
+pub mod GlanceOperations
+pub mod GlanceCalls
+pub mod GlanceLays
+pub mod GlanceAnswers
+pub mod GlanceHeld

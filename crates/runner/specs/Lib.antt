@@ -4,3 +4,4 @@ pub mod Ready
 pub mod Steps
 pub mod Run
 pub mod Promises
+pub mod Glance

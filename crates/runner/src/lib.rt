@@ -12,6 +12,7 @@ ghost use Rattle.runner.specs.Ready.{shown, Ready};
 ghost use Rattle.runner.specs.Steps.{roomsIn, Makeable};
 ghost use Rattle.runner.specs.Run.{performed, runOf, Gives};
 
+pub mod glance;
 mod room;
 mod row;
 

@@ -46,7 +46,7 @@ fn place(node: u8) -> usize
     node as usize
 }
 
-fn names(mask: u16, kind: u8) -> bool
+pub(crate) fn names(mask: u16, kind: u8) -> bool
     requires { ⌜ kind < 16 ⌝ }
     ensures { λ r. ⌜ r ≡ bit mask kind ⌝ }
 {

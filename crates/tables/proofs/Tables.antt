@@ -45,7 +45,7 @@ none-sound = record {
 }
 
 -- no number came more often than there were rows
-pub put-room : (c : Gathered) (i : ℕ) → Sound c → c .total < elementLimit → Fits w8 (getD (c .times) i 0 + 1)
+put-room : (c : Gathered) (i : ℕ) → Sound c → c .total < elementLimit → Fits w8 (getD (c .times) i 0 + 1)
 put-room c i h l = record { fits = omega (arith, h .times-most i) }
 
 pub put-is : (c : Gathered) (r : Row) {i : ℕ} → i ≡ r .number → record {
@@ -55,8 +55,6 @@ pub put-is : (c : Gathered) (r : Row) {i : ℕ} → i ≡ r .number → record {
 } ≡ put c r
 unfolding put
 put-is c r e = rw e
-
-pub ruleset put-laws = (put-room, put-is, needs)
 
 module _ (c : Gathered) (r : Row) (sound : Sound c) (room : c .total < elementLimit) (good : GoodRow elementLimit r) where
   pub put-sound : Sound (put c r)
@@ -122,6 +120,16 @@ module _ {w : Read Gathered} {t : ℕ} {s : List ℕ} {c : Gathered} {last n : �
       pub upto-good : GoodRow elementLimit (x .row)
       upto-good = row-out elementLimit t last s (cursor .at) (beside-got (x .row) h q) .good
 
+      -- its place, and room for one more there
+      pub upto-positive : {i : ℕ} → i ≡ x .row .number → 1 ≤ i
+      upto-positive e = omega (arith, upto-good .positive)
+
+      pub upto-place : {i : ℕ} → i ≡ x .row .number → i - 1 < elementLimit
+      upto-place e = omega (arith, upto-good .positive, upto-good .most)
+
+      pub upto-fits : (i : ℕ) → Fits w8 (getD (c .times) i 0 + 1)
+      upto-fits i = let room = u .room in put-room c i (u .sound) (omega arith)
+
       pub upto-again : {d : Gathered} → d ≡ put c (x .row) → Upto w t s d (x .row .number) (n - 1) (after .at)
       unfolding put
       upto-again e =
@@ -132,7 +140,7 @@ module _ {w : Read Gathered} {t : ℕ} {s : List ℕ} {c : Gathered} {last n : �
             rest = row-turn ∙ rows-more t last (n - 1) s (cursor .at) c (beside-got (x .row) h q);
           })
 
-pub ruleset table-laws = (upto-start, upto-end, upto-refused, upto-good, upto-again, needs)
+pub ruleset table-laws = (put-is, upto-start, upto-end, upto-refused, upto-positive, upto-place, upto-fits, upto-again, needs)
 
 -- The loop over the types: w is what all tables come to, and c what is kept of those below kind.
 pub record Below (w : Read Gathered) (s : List ℕ) (k : ℕ) (c : Gathered) (kind at : ℕ) : Type 0 where

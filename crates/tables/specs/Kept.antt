@@ -7,14 +7,17 @@ use lib.Dec.{eqb}
 use lib.ListN.{length, getD, take, set, replicate}
 use Rattle.meaning.specs.declared.Document.{Document}
 use Rattle.meaning.specs.declared.Element.{Element}
+use Rattle.meaning.specs.declared.Graph.{Graph}
+use Rattle.meaning.specs.declared.Reason.the-variants.{Bound}
 use Rattle.meaning.specs.Limits.{elementLimit}
 use Rattle.meaning.specs.Documents.{documentNode}
-use Rattle.fields.specs.Read.{Read, got, refused, bind}
+use Rattle.fields.specs.Read.{Read, got, refused, bind, Reader, _>>=_, _>>_, judge, byte, header}
 use Rattle.fields.specs.declared.Field.{Field}
 use Rattle.fields.specs.declared.Field.the-variants.{Got, Refused}
 use Rattle.tables.specs.declared.Row.{Row}
 use Rattle.tables.specs.declared.Gathered.{Gathered}
 use Rattle.tables.specs.declared.GatheredRead.{GatheredRead}
+use Rattle.tables.specs.Edg.{tablesRead}
 
 -- what stands beside a field's answer was read, or the refusal was met
 abbrev pub beside : {A : Type 0} → Field → A → Read A
@@ -23,6 +26,14 @@ beside (Refused r) a = refused r
 
 unfoldable pub mapped : {A B : Type 0} → (A → B) → Read A → Read B
 mapped f e = bind e (λ a at. got (f a) at)
+
+-- header, k and the tables, before the total is judged
+unfoldable pub allRows : ℕ → Graph → Reader (List Row)
+allRows limit g = do
+  header 0x45 0x44 0x47
+  k ← byte
+  judge (eqb k (g .k)) Bound
+  tablesRead limit 0 0 k
 
 unfoldable pub none : Gathered
 none = record { elements = replicate elementLimit documentNode; times = replicate elementLimit 0; total = 0 }

@@ -7,8 +7,8 @@ ghost use Rattle.meaning.specs.Limits.{elementLimit};
 ghost use Rattle.meaning.specs.Documents.{view, node, below, parentRule, edgeRule};
 ghost use Rattle.fields.specs.Read.{readOf, passed};
 ghost use Rattle.fields.specs.Outcomes.{documentRead};
-ghost use Rattle.tables.specs.Edg.{rowRule, rowRead, rowsRead, tablesRead, rowsFile, elementJudged, elementsJudged, tablesFile};
-ghost use Rattle.tables.specs.Kept.{beside, mapped, none, put, added, Sound, GoodRow, Answers, ones, listed, Climbable};
+ghost use Rattle.tables.specs.Edg.{rowRule, rowRead, rowsRead, tablesRead, elementJudged, elementsJudged, tablesFile};
+ghost use Rattle.tables.specs.Kept.{beside, mapped, allRows, none, added, Sound, Answers, ones, listed, Climbable};
 use fields::Cursor;
 use fields::DOCUMENT_NODE;
 use fields::Field;
@@ -40,6 +40,7 @@ struct RowRead {
 }
 
 // What the rows so far come to: each element in its number's place, how often each number came, and how many rows there were.
+// It is written in place, and handed on as seldom as can be: its copies are most of the stack of a call that reads tables.
 struct Gathered {
     elements: [Element; 127],
     times: [u8; 127],
@@ -123,23 +124,6 @@ impl Gathered {
         }
     }
 
-    fn put(self, row: Row) -> Self
-        requires { ⌜ Sound self × (self .total < elementLimit) × GoodRow elementLimit row ⌝ }
-        ensures { λ r. ⌜ r ≡ put self row ⌝ }
-    {
-        let at = wide(row.number) - 1;
-        let element = row.element;
-        let mut elements = self.elements;
-        elements[at] = element;
-        let mut times = self.times;
-        times[at] = times[at] + 1;
-        Gathered {
-            elements,
-            times,
-            total: self.total + 1,
-        }
-    }
-
     // Whether each number from 1 to the total came once.
     fn each_once(self) -> bool
         requires { ⌜ Sound self ⌝ }
@@ -172,7 +156,11 @@ fn read_table(part: &[u8], kind: u8, count: u16, before: Gathered) -> GatheredRe
             return GatheredRead { next, gathered };
         };
         let row = read.row;
-        gathered = gathered.put(row);
+        let at = wide(row.number) - 1;
+        let element = row.element;
+        gathered.elements[at] = element;
+        gathered.times[at] = gathered.times[at] + 1;
+        gathered.total = gathered.total + 1;
         cursor = after;
         last = row.number;
         left -= 1;
@@ -196,36 +184,40 @@ fn stretch_end(s: &[u8], a: usize, count: u16) -> usize
 fn read_tables(s: &[u8], start: Cursor, k: u8) -> GatheredRead
     ensures { λ r. ⌜ Answers r (mapped (added none) (tablesRead elementLimit 0 0 k (now (s .entry)) (start .at))) ⌝ }
 {
-    let mut gathered = Gathered::none();
+    let gathered = Gathered::none();
+    let next = Field::Got(0, start);
+    let mut read = GatheredRead { next, gathered };
     let mut cursor = start;
     let mut kind: u8 = 0;
     while kind < k {
         let next = cursor.byte(s);
         let Field::Got(count, after) = next else {
+            let gathered = read.gathered;
             return GatheredRead { next, gathered };
         };
-        if LIMIT - gathered.total < wide(count) {
+        if LIMIT - read.gathered.total < wide(count) {
             let next = fields::refuse(Reason::Bound);
+            let gathered = read.gathered;
             return GatheredRead { next, gathered };
         }
         let a = after.at;
         let e = stretch_end(s, a, count);
-        let read = read_table(&s[a..e], kind, count, gathered);
+        read = read_table(&s[a..e], kind, count, read.gathered);
         let next = read.next;
         let Field::Got(_, _) = next else {
             return read;
         };
-        gathered = read.gathered;
         cursor = Cursor { at: e };
         kind += 1;
     }
     let next = Field::Got(0, cursor);
+    let gathered = read.gathered;
     GatheredRead { next, gathered }
 }
 
 // Header, k and the tables.
 fn read_rows(s: &[u8], g: Graph) -> GatheredRead
-    ensures { λ r. ⌜ Answers r (mapped (added none) (rowsFile elementLimit g (now (s .entry)) 0)) ⌝ }
+    ensures { λ r. ⌜ Answers r (mapped (added none) (allRows elementLimit g (now (s .entry)) 0)) ⌝ }
 {
     let gathered = Gathered::none();
     let next = Cursor::start().header(s, b'E', b'D', b'G');
@@ -241,17 +233,7 @@ fn read_rows(s: &[u8], g: Graph) -> GatheredRead
         let next = fields::refuse(Reason::Bound);
         return GatheredRead { next, gathered };
     }
-    let read = read_tables(s, after, types);
-    let next = read.next;
-    let Field::Got(_, _) = next else {
-        return read;
-    };
-    let gathered = read.gathered;
-    if gathered.total == 0 {
-        let next = fields::refuse(Reason::Bound);
-        return GatheredRead { next, gathered };
-    }
-    read
+    read_tables(s, after, types)
 }
 
 fn node_at(document: Document, v: u8) -> Element
@@ -350,6 +332,9 @@ pub fn read(s: &[u8], g: Graph) -> DocumentRead
     let Field::Got(_, end) = next else {
         return turned_away(next);
     };
+    if read.gathered.total == 0 {
+        return turned_away(fields::refuse(Reason::Bound));
+    }
     let ended = end.end(s);
     let Field::Got(_, _) = ended else {
         return turned_away(ended);

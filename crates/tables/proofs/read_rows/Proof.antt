@@ -1,4 +1,4 @@
--- What the header, k or a table refuses is handed on; past the tables only a total of 0 is refused.
+-- What the header or k refuses is handed on; past them it is what the tables come to.
 use Rattle.tables.proofs.Reader.{rows-laws}
 use Rattle.tables.proofs.read_rows.Statement.{statement}
 use Rattle.tables.proofs.read_rows.Tie as tie
@@ -48,23 +48,8 @@ returns-3 c = search rows-laws
 read-tables-requires : tie.Need-read-tables-requires
 read-tables-requires c κs = search rows-laws
 
-enum-told-3 : tie.Need-enum-told-3
-enum-told-3 c = search rows-laws
-
-enum-told-4 : tie.Need-enum-told-4
-enum-told-4 c = search rows-laws
-
 returns-4 : tie.Need-returns-4
 returns-4 c = search rows-laws
-
-refuse-requires-2 : tie.Need-refuse-requires-2
-refuse-requires-2 c κs = search rows-laws
-
-returns-5 : tie.Need-returns-5
-returns-5 c = search rows-laws
-
-returns-6 : tie.Need-returns-6
-returns-6 c = search rows-laws
 
 pub read-rows-spec : {M : Type 1} → statement M
 read-rows-spec =
@@ -85,9 +70,4 @@ read-rows-spec =
     refuse-requires
     returns-3
     read-tables-requires
-    enum-told-3
-    enum-told-4
-    returns-4
-    refuse-requires-2
-    returns-5
-    returns-6)
+    returns-4)

@@ -31,8 +31,29 @@ enum-told c = search table-laws
 returns : tie.Need-returns Inv-loop μ-loop
 returns c = search table-laws
 
-put-requires : tie.Need-put-requires Inv-loop μ-loop
-put-requires c κs = search table-laws
+wide-requires : tie.Need-wide-requires Inv-loop μ-loop
+wide-requires c κs = search table-laws
+
+sub-at : tie.Need-sub-at Inv-loop μ-loop
+sub-at c = search table-laws
+
+mul-element : tie.Need-mul-element Inv-loop μ-loop
+mul-element c = search table-laws
+
+element-set-from-element : tie.Need-element-set-from-element Inv-loop μ-loop
+element-set-from-element c = search table-laws
+
+element-copy-out-gathered : tie.Need-element-copy-out-gathered Inv-loop μ-loop
+element-copy-out-gathered c = search table-laws
+
+add-gathered : tie.Need-add-gathered Inv-loop μ-loop
+add-gathered c = search table-laws
+
+element-write-gathered : tie.Need-element-write-gathered Inv-loop μ-loop
+element-write-gathered c = search table-laws
+
+add-gathered-2 : tie.Need-add-gathered-2 Inv-loop μ-loop
+add-gathered-2 c = search table-laws
 
 sub-left : tie.Need-sub-left Inv-loop μ-loop
 sub-left c = search table-laws
@@ -58,7 +79,14 @@ read-table-spec =
     enum-known-next
     enum-told
     returns
-    put-requires
+    wide-requires
+    sub-at
+    mul-element
+    element-set-from-element
+    element-copy-out-gathered
+    add-gathered
+    element-write-gathered
+    add-gathered-2
     sub-left
     loop-less
     loop-again

@@ -8,11 +8,11 @@ use Rattle.tables.proofs.read_tables.Statement.{statement}
 use Rattle.tables.proofs.read_tables.Tie as tie
 
 abbrev Inv-loop : tie.InvT-loop
-Inv-loop s k gathered₀ cursor₀ kind₀ gathered cursor kind =
-    Below (mapped (added none) (tablesRead elementLimit 0 0 k s (cursor₀ .at))) s k gathered kind (cursor .at)
+Inv-loop s k read₀ cursor₀ kind₀ read cursor kind =
+    Below (mapped (added none) (tablesRead elementLimit 0 0 k s (cursor₀ .at))) s k (read .gathered) kind (cursor .at)
 
 abbrev μ-loop : tie.MeasureT-loop
-μ-loop s k gathered₀ cursor₀ kind₀ gathered cursor kind = k - kind
+μ-loop s k read₀ cursor₀ kind₀ read cursor kind = k - kind
 
 none-requires : tie.Need-none-requires Inv-loop μ-loop
 none-requires c κs = search tables-laws
