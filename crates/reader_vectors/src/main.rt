@@ -1,18 +1,8 @@
 // Reads the files that its arguments name, in pairs of a graph and a file, and prints for each file its name and
 // what the reader of its kind answers.
-ghost use Rattle.io.specs.Counts.{Counts};
 use libc::STDOUT_FILENO;
+use loading::load;
 use meaning::Answer;
-
-// What the file holds from its start on, up to the buffer's length; a file that is missing counts as empty.
-fn load(name: &[u8], buffer: &mut [u8]) -> usize
-    ensures { λ r. ⌜ Counts r (now (buffer .exit)) ⌝ }
-{
-    let fd = os::open_read(name);
-    let n = io::read_full(fd, buffer);
-    libc::close(fd);
-    n
-}
 
 // The name's ending begins with a letter of its own for each kind of file.
 fn kind(name: &[u8]) -> u8 {

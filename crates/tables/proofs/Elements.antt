@@ -2,11 +2,11 @@
 use Prim.Native.Nat.{ℕ, zero, suc, _+_, _-_, _≤_, _<_}
 use mathlib.Core.Path.{_≡_, refl, sym, ap, _∙_}
 use mathlib.Core.Bool.{Bool, true, false, not, _&&_, _||_}
-use mathlib.Core.List.{List, []}
+use mathlib.Core.List.{List, [], map}
 use native.Mathlib.Omega.{arith}
 use native.Mathlib.Numerals.{add-one}
 use lib.Dec.{eqb}
-use lib.ListN.{length, getD, take, length-take, List·getD-eq-default}
+use lib.ListN.{length, getD, take, length-take, length-map, List·getD-map, List·getD-eq-default}
 use lib.Seq.{getD-take}
 use borrow.Author.Needs.{needs}
 use borrow.Author.Tests.{lt-ltb, le-ltb, le-leb, eq-eqb, ne-eqb, eqb-true, not-true, not-false}
@@ -26,7 +26,7 @@ use Rattle.fields.specs.declared.Field.the-variants.{Got, Refused}
 use Rattle.fields.proofs.Laws.{taken-passed, handed-passed}
 use Rattle.fields.proofs.Formats.{bind-out, judge-out}
 use Rattle.tables.specs.Edg.{elementJudged, elementsJudged}
-use Rattle.tables.specs.Kept.{ones, listed, Climbable}
+use Rattle.tables.specs.Kept.{elementIn, documentIn, ones, listed, Climbable}
 use Rattle.tables.proofs.Lists.{take-keeps, getD-there}
 
 -- each number below n came once
@@ -65,16 +65,24 @@ module _ (d : Document) where
   node-past zero e l = refl
   node-past (suc i) e l = sym (List·getD-eq-default (take (d .count) (d .elements)) documentNode (omega (arith, length-take (d .count) (d .elements))))
 
-  pub node-there : Climbable d → (v : ℕ) {n : ℕ} (x : Element) → n ≡ v → (n ≡ 0 → ⊥) → n ≤ d .count → getD (d .elements) (n - 1) x ≡ node (listed d) v
-  unfolding node listed
-  node-there climbable zero x e z l = absurd (z e)
-  node-there climbable (suc i) {n} x e z l =
-      let before : n - 1 ≡ i = omega arith in
-      let long = climbable .long in
-      let most = climbable .most in
-      rw before (getD-there (d .elements) i x documentNode (omega arith) ∙ sym (getD-take (d .count) (d .elements) i documentNode (omega arith)))
+pub node-there : (kept : List ℕ) (total : ℕ) → Climbable (documentIn kept total) → (v : ℕ) {n : ℕ} → n ≡ v → (n ≡ 0 → ⊥) → n ≤ total → {e : Element} → e ≡ elementIn (getD kept (n - 1) 0)
+    → e ≡ node (listed (documentIn kept total)) v
+unfolding node listed
+node-there kept total climbable zero e z l same = absurd (z e)
+node-there kept total climbable (suc i) {n} e z l same =
+    let before : n - 1 ≡ i = omega arith in
+    let long = climbable .long in
+    let most = climbable .most in
+    same
+    ∙ sym (List·getD-map elementIn kept (n - 1) 0)
+    ∙ rw before (getD-there (map elementIn kept) i (elementIn 0) documentNode (omega arith) ∙ sym (getD-take total (map elementIn kept) i documentNode (omega arith)))
 
-pub ruleset node-laws = (node-document, node-past, node-there, needs)
+pub node-place : (kept : List ℕ) (total : ℕ) → Climbable (documentIn kept total) → {n : ℕ} → (n ≡ 0 → ⊥) → n ≤ total → n - 1 < length kept
+node-place kept total climbable z l =
+    let most = climbable .most in
+    omega (arith, climbable .long, length-map kept elementIn)
+
+pub ruleset node-laws = (node-document, node-past, node-there, node-place, needs)
 
 module _ (d : Document) (climbable : Climbable d) where
   listed-long : length (listed d) ≡ d .count

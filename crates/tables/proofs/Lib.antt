@@ -1,5 +1,6 @@
 pub mod Lists
 pub mod Readings
+pub mod Places
 pub mod Rows
 pub mod Stretch
 pub mod Tables

@@ -1,7 +1,7 @@
 -- Lists: what holds of all rows, and what holds at each place.
 use Prim.Native.Nat.{ℕ, zero, suc, _-_, _<_}
-use mathlib.Core.Path.{_≡_, refl}
-use mathlib.Core.List.{List, [], _∷_, _++_}
+use mathlib.Core.Path.{_≡_, refl, ap}
+use mathlib.Core.List.{List, [], _∷_, _++_, map}
 use native.Mathlib.Omega.{arith}
 use native.Mathlib.Nat.{sub-zero}
 use lib.ListN.{length, getD, take, drop, set, replicate}
@@ -26,6 +26,11 @@ all-map f (all-more {r} p ps) = all-more (f r p) (all-map f ps)
 pub all-with : {P Q R : Row → Type 0} {rs : List Row} → ((r : Row) → P r → Q r → R r) → All P rs → All Q rs → All R rs
 all-with f all-none all-none = all-none
 all-with f (all-more {r} p ps) (all-more q qs) = all-more (f r p q) (all-with f ps qs)
+
+pub map-set : {A B : Type 0} (f : A → B) (l : List A) (i : ℕ) (v : A) → map f (set l i v) ≡ set (map f l) i (f v)
+map-set f [] i v = refl
+map-set f (x ∷ l) zero v = refl
+map-set f (x ∷ l) (suc i) v = ap (λ m. f x ∷ m) (map-set f l i v)
 
 -- what holds at each place, and of what is set there, holds after it
 pub set-keeps : {A : Type 0} (P : ℕ → A → Type 0) (l : List A) (i : ℕ) (v d : A) → ((j : ℕ) → P j (getD l j d)) → P i v → (j : ℕ) → P j (getD (set l i v) j d)

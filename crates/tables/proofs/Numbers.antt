@@ -15,9 +15,8 @@ use Rattle.meaning.proofs.Tests.{and-in, and-left, and-right}
 use Rattle.meaning.proofs.Sets.{below-suc}
 use Rattle.fields.specs.Read.{pick}
 use Rattle.tables.specs.declared.Row.{Row}
-use Rattle.tables.specs.declared.Gathered.{Gathered}
 use Rattle.tables.specs.Edg.{times, eachOnce, placed, elementsOf}
-use Rattle.tables.specs.Kept.{none, put, added, GoodRow, ones}
+use Rattle.tables.specs.Kept.{Gathered, none, put, added, GoodRow, ones}
 use Rattle.tables.proofs.Lists.{All, all-none, all-more, all-map, all-with, set-keeps, take-keeps, same-anywhere, drop-replicate}
 
 -- how often a number comes

@@ -27,57 +27,70 @@ use Rattle.fields.specs.declared.Field.the-variants.{Got, Refused}
 use Rattle.fields.proofs.Laws.{taken, handed, taken-passed, handed-passed}
 use Rattle.fields.proofs.Formats.{bind-out, end-out}
 use Rattle.tables.specs.declared.Row.{Row}
-use Rattle.tables.specs.declared.Gathered.{Gathered}
-use Rattle.tables.specs.declared.GatheredRead.{GatheredRead}
 use Rattle.tables.specs.Edg.{tablesRead, rowsFile, times, eachOnce, placed, elementsOf, elementJudged, elementsJudged, whole, tablesFile}
-use Rattle.tables.specs.Kept.{mapped, allRows, none, added, Sound, GoodRow, Answers, ones, listed}
+use Rattle.tables.specs.Kept.{beside, mapped, Gathered, none, added, Sound, GoodRow, Answers, ones, listed}
 use Rattle.tables.proofs.Lists.{All, same-anywhere}
 use Rattle.tables.proofs.Readings.{got-same, mapped-refused, beside-got, beside-refused, turned-away}
-use Rattle.tables.proofs.Tables.{none-sound, added-total, tables-out}
+use Rattle.tables.proofs.Places.{none-sound, blank-none, place-laws}
+use Rattle.tables.proofs.Tables.{added-total, tables-out}
 use Rattle.tables.proofs.Numbers.{once-all, elements-long, elements-fill, added-elements, added-times, ones-once}
 
 -- header, k and the tables
-module _ (g : Graph) (s : List ℕ) {start : Cursor} (z : start .at ≡ 0) {c : Gathered} (n : c ≡ none) {x : Field} (p : readOf x ≡ passed (header 0x45 0x44 0x47 s (start .at))) where
-  pub rows-headless : {r : Refusal} → x ≡ Refused r → Answers (record { next = x; gathered = c }) (mapped (added none) (allRows elementLimit g s 0))
-  unfolding mapped allRows
-  rows-headless q =
-      let h = handed-passed (header 0x45 0x44 0x47 s (start .at)) p q in
-      turned-away (rw n none-sound) q (simp (rw z at h))
+module _ (g : Graph) (s : List ℕ) {c : Gathered} (n : c ≡ none) {x : Field} (p : readOf x ≡ passed (header 0x45 0x44 0x47 s 0)) where
+  pub rows-headless : {r : Refusal} → x ≡ Refused r → Answers x c (mapped (added none) (rowsFile elementLimit g s 0))
+  unfolding mapped rowsFile
+  rows-headless q = turned-away (rw n none-sound) q (simp (handed-passed (header 0x45 0x44 0x47 s 0) p q))
 
   module _ {v : ℕ} {first : Cursor} (q : x ≡ Got v first) where
     headed : header 0x45 0x44 0x47 s 0 ≡ got tt (first .at)
-    headed = rw z at (taken-passed (header 0x45 0x44 0x47 s (start .at)) p q)
+    headed = taken-passed (header 0x45 0x44 0x47 s 0) p q
 
     module _ {y : Field} (h : readOf y ≡ byte s (first .at)) where
-      pub rows-uncounted : {r : Refusal} → y ≡ Refused r → Answers (record { next = y; gathered = c }) (mapped (added none) (allRows elementLimit g s 0))
-      unfolding mapped allRows
+      pub rows-uncounted : {r : Refusal} → y ≡ Refused r → Answers y c (mapped (added none) (rowsFile elementLimit g s 0))
+      unfolding mapped rowsFile
       rows-uncounted i = turned-away (rw n none-sound) i (simp (headed, handed h i))
 
       module _ {k : ℕ} {after : Cursor} (i : y ≡ Got k after) {a b : ℕ} (wide : a ≡ k) (place : b ≡ g .k) where
-        pub rows-other : {u : Field} → (a ≡ b → ⊥) → u ≡ Refused (record { reason = Bound }) → Answers (record { next = u; gathered = c }) (mapped (added none) (allRows elementLimit g s 0))
-        unfolding mapped allRows
+        pub rows-other : {u : Field} → (a ≡ b → ⊥) → u ≡ Refused (record { reason = Bound }) → Answers u c (mapped (added none) (rowsFile elementLimit g s 0))
+        unfolding mapped rowsFile
         rows-other o j = turned-away (rw n none-sound) j (simp (headed, taken h i, ne-eqb k (g .k) (λ e. o (omega arith))))
 
-        pub rows-read : a ≡ b → (t : GatheredRead) → Answers t (mapped (added none) (tablesRead elementLimit 0 0 (g .k) s (after .at)))
-            → Answers t (mapped (added none) (allRows elementLimit g s 0))
-        unfolding allRows
-        rows-read same t w =
-            let kinds : k ≡ g .k = omega arith in
-            let all : allRows elementLimit g s 0 ≡ tablesRead elementLimit 0 0 (g .k) s (after .at) = simp (headed, taken h i, kinds, eq-eqb (g .k) (g .k) refl) in
-            rw all w
+        module _ (same : a ≡ b) {t : Field} {d : Gathered} (w : Answers t d (mapped (added none) (tablesRead elementLimit 0 0 (g .k) s (after .at)))) where
+          kind-count : k ≡ g .k
+          kind-count = omega arith
 
-pub ruleset rows-laws = (rows-headless, rows-uncounted, rows-other, rows-read, needs)
+          all-kinds : eqb (g .k) (g .k) ≡ true
+          all-kinds = eq-eqb (g .k) (g .k) refl
 
--- then the total is judged
-module _ {A B C : Type 0} where
-  bind-into : (e : Read A) (f : A → ℕ → Read B) (t : B → ℕ → Read C) (h : A → ℕ → Read C) → ((a : A) (at : ℕ) → bind (f a at) t ≡ h a at) → bind (bind e f) t ≡ bind e h
-  bind-into (got a at) f t h same = same a at
-  bind-into (refused r) f t h same = refl
+          pub rows-stopped : {r : Refusal} → t ≡ Refused r → Answers t d (mapped (added none) (rowsFile elementLimit g s 0))
+          unfolding mapped rowsFile
+          rows-stopped j =
+              let stop = mapped-refused (added none) (tablesRead elementLimit 0 0 (g .k) s (after .at)) (beside-refused d (w .right) j) in
+              turned-away (w .sound) j (simp (headed, taken h i, kind-count, all-kinds, stop))
 
-total-judged : (g : Graph) (s : List ℕ) → bind (allRows elementLimit g s 0) (λ rs n. bind (judge (leb 1 (length rs)) Bound s n) (λ _ m. got rs m)) ≡ rowsFile elementLimit g s 0
-unfolding allRows rowsFile
-total-judged g s =
-    bind-into (header 0x45 0x44 0x47 s 0) _ _ _ λ _ a. bind-into (byte s a) _ _ _ λ k b. bind-into (judge (eqb k (g .k)) Bound s b) _ _ _ λ _ c. refl
+          module _ {m : ℕ} {last : Cursor} (j : t ≡ Got m last) where
+            -- the rows that were read
+            tabled : (rs : List Row) × (tablesRead elementLimit 0 0 (g .k) s (after .at) ≡ got rs (last .at)) × (added none rs ≡ d) × (length rs ≡ d .total)
+            unfolding mapped none
+            tabled =
+                let (rs, n, q, f) = bind-out (tablesRead elementLimit 0 0 (g .k) s (after .at)) _ (beside-got d (w .right) j) in
+                let kept : added none rs ≡ d = cc in
+                let next : n ≡ last .at = cc in
+                (rs, rw next at q, kept, omega (arith, added-total none rs, ap (λ (c : Gathered). c .total) kept))
+
+            pub rows-none : {u : Field} → d .total ≡ 0 → u ≡ Refused (record { reason = Bound }) → Answers u d (mapped (added none) (rowsFile elementLimit g s 0))
+            unfolding mapped rowsFile
+            rows-none o l =
+                let (rs, q, kept, long) = tabled in
+                turned-away (w .sound) l (simp (headed, taken h i, kind-count, all-kinds, q, lt-leb 1 (length rs) (omega arith)))
+
+            pub rows-read : (d .total ≡ 0 → ⊥) → Answers t d (mapped (added none) (rowsFile elementLimit g s 0))
+            unfolding mapped rowsFile
+            rows-read o =
+                let (rs, q, kept, long) = tabled in
+                record { sound = w .sound; right = ap (λ (f : Field). beside f d) j ∙ sym (simp (headed, taken h i, kind-count, all-kinds, q, le-leb 1 (length rs) (omega arith), kept)) }
+
+pub ruleset rows-laws = (rows-headless, rows-uncounted, rows-other, rows-stopped, rows-none, rows-read, needs)
 
 -- nothing that is judged of the whole depends on the bytes
 module _ (g : Graph) (es : List Element) (s : List ℕ) where
@@ -150,74 +163,57 @@ module _ (g : Graph) (s : List ℕ) where
       → tablesFile elementLimit g s 0 ≡ refused r → y ≡ documentRead (tablesFile elementLimit g s 0)
   away h q e = h ∙ rw (q, e)
 
-  module _ (x : GatheredRead) (t : Answers x (mapped (added none) (allRows elementLimit g s 0))) where
-    pub read-refused : {y : DocumentRead} {r : Refusal} → y ≡ record { outcome = outcomeOf (readOf (x .next)); document = documentOf [] } → x .next ≡ Refused r
+  module _ {x : Field} {c : Gathered} (t : Answers x c (mapped (added none) (rowsFile elementLimit g s 0))) where
+    pub read-refused : {y : DocumentRead} {r : Refusal} → y ≡ record { outcome = outcomeOf (readOf (x)); document = documentOf [] } → x ≡ Refused r
         → y ≡ documentRead (tablesFile elementLimit g s 0)
     unfolding tablesFile
-    read-refused h q =
-        let stop = mapped-refused (added none) (allRows elementLimit g s 0) (beside-refused (x .gathered) (t .right) q) in
-        away h q (simp (← total-judged g s, stop))
+    read-refused h q = away h q (simp (mapped-refused (added none) (rowsFile elementLimit g s 0) (beside-refused c (t .right) q)))
 
-    module _ {v : ℕ} {last : Cursor} (q : x .next ≡ Got v last) where
-      -- the rows that were read
-      tabled : (rs : List Row) × (allRows elementLimit g s 0 ≡ got rs (last .at)) × (added none rs ≡ x .gathered) × (length rs ≡ x .gathered .total)
-      unfolding mapped none
-      tabled =
-          let (rs, n, i, j) = bind-out (allRows elementLimit g s 0) _ (beside-got (x .gathered) (t .right) q) in
+    module _ {v : ℕ} {last : Cursor} (q : x ≡ Got v last) where
+      found : (rs : List Row) × (rowsFile elementLimit g s 0 ≡ got rs (last .at)) × Keeps c rs
+      unfolding mapped
+      found =
+          let (rs, n, i, j) = bind-out (rowsFile elementLimit g s 0) _ (beside-got c (t .right) q) in
           let (kept, next) = got-same j in
-          (rs, rw next at i, kept, omega (arith, added-total none rs, ap (λ (c : Gathered). c .total) kept))
+          (rs, rw next at i, keeps-rows (t .sound) (rows-good g s i) kept)
 
-      pub read-empty : {y : DocumentRead} {u : Field} → y ≡ record { outcome = outcomeOf (readOf u); document = documentOf [] } → x .gathered .total ≡ 0
-          → u ≡ Refused (record { reason = Bound }) → y ≡ documentRead (tablesFile elementLimit g s 0)
-      unfolding tablesFile
-      read-empty i o l =
-          let (rs, e, kept, long) = tabled in
-          away i l (simp (← total-judged g s, e, lt-leb 1 (length rs) (omega arith)))
+      module _ {f : Field} (h : readOf f ≡ passed (end s (last .at))) where
+        pub read-extra : {y : DocumentRead} {r : Refusal} → y ≡ record { outcome = outcomeOf (readOf f); document = documentOf [] } → f ≡ Refused r
+            → y ≡ documentRead (tablesFile elementLimit g s 0)
+        unfolding tablesFile
+        read-extra i k = let (rs, e, _) = found in away i k (simp (e, handed-passed (end s (last .at)) h k))
 
-      module _ (some : x .gathered .total ≡ 0 → ⊥) where
-        found : (rs : List Row) × (rowsFile elementLimit g s 0 ≡ got rs (last .at)) × Keeps (x .gathered) rs
-        found =
-            let (rs, e, kept, long) = tabled in
-            let file : rowsFile elementLimit g s 0 ≡ got rs (last .at) = sym (total-judged g s) ∙ simp (e, le-leb 1 (length rs) (omega arith)) in
-            (rs, file, keeps-rows (t .sound) (rows-good g s file) kept)
+        module _ {m : ℕ} {past : Cursor} (k : f ≡ Got m past) {b : Bool} (o : b ≡ ones (c .total) (c .times)) where
+          ended : end s (last .at) ≡ got tt (last .at)
+          ended = let e = taken-passed (end s (last .at)) h k in rw (← (end-out s (last .at) e .1)) at e
 
-        module _ {f : Field} (h : readOf f ≡ passed (end s (last .at))) where
-          pub read-extra : {y : DocumentRead} {r : Refusal} → y ≡ record { outcome = outcomeOf (readOf f); document = documentOf [] } → f ≡ Refused r
-              → y ≡ documentRead (tablesFile elementLimit g s 0)
-          unfolding tablesFile
-          read-extra i k = let (rs, e, _) = found in away i k (simp (e, handed-passed (end s (last .at)) h k))
+          pub read-repeated : {y : DocumentRead} {u : Field} → y ≡ record { outcome = outcomeOf (readOf u); document = documentOf [] } → not b ≡ true
+              → u ≡ Refused (record { reason = Number }) → y ≡ documentRead (tablesFile elementLimit g s 0)
+          unfolding tablesFile whole
+          read-repeated i p l = let (rs, e, keeps) = found in away i l (simp (e, ended, ← (keeps .once), ← o, not-true b p))
 
-          module _ {m : ℕ} {c : Cursor} (k : f ≡ Got m c) {b : Bool} (o : b ≡ ones (x .gathered .total) (x .gathered .times)) where
-            ended : end s (last .at) ≡ got tt (last .at)
-            ended = let e = taken-passed (end s (last .at)) h k in rw (← (end-out s (last .at) e .1)) at e
+          module _ (p : not b ≡ false) (j : Field) (w : readOf j ≡ passed (elementsJudged g (listed (record { count = c .total; elements = c .elements })) 1 (c .total) [] (last .at))) where
+            judged : (rs : List Row) → Keeps c rs → readOf j ≡ passed (elementsJudged g (elementsOf elementLimit rs) 1 (length rs) s (last .at))
+            judged rs keeps = w ∙ rw (keeps-listed keeps, keeps .count, ← (judged-anywhere g (elementsOf elementLimit rs) s 1 (length rs) (last .at)))
 
-            pub read-repeated : {y : DocumentRead} {u : Field} → y ≡ record { outcome = outcomeOf (readOf u); document = documentOf [] } → not b ≡ true
-                → u ≡ Refused (record { reason = Number }) → y ≡ documentRead (tablesFile elementLimit g s 0)
+            once : (rs : List Row) → Keeps c rs → eachOnce (length rs) rs ≡ true
+            once rs keeps = sym (keeps .once) ∙ sym o ∙ not-false b p
+
+            pub read-misjudged : {y : DocumentRead} {r : Refusal} → y ≡ record { outcome = outcomeOf (readOf j); document = documentOf [] } → j ≡ Refused r
+                → y ≡ documentRead (tablesFile elementLimit g s 0)
             unfolding tablesFile whole
-            read-repeated i p l = let (rs, e, keeps) = found in away i l (simp (e, ended, ← (keeps .once), ← o, not-true b p))
+            read-misjudged i l =
+                let (rs, e, keeps) = found in
+                let stop = handed-passed (elementsJudged g (elementsOf elementLimit rs) 1 (length rs) s (last .at)) (judged rs keeps) l in
+                away i l (simp (e, ended, once rs keeps, stop))
 
-            module _ (p : not b ≡ false) (j : Field) (w : readOf j ≡ passed (elementsJudged g (listed (record { count = x .gathered .total; elements = x .gathered .elements })) 1 (x .gathered .total) [] (last .at))) where
-              judged : (rs : List Row) → Keeps (x .gathered) rs → readOf j ≡ passed (elementsJudged g (elementsOf elementLimit rs) 1 (length rs) s (last .at))
-              judged rs keeps = w ∙ rw (keeps-listed keeps, keeps .count, ← (judged-anywhere g (elementsOf elementLimit rs) s 1 (length rs) (last .at)))
+            pub read-accepted : {d : Document} {n : ℕ} {past : Cursor} → j ≡ Got n past → d ≡ record { count = c .total; elements = c .elements }
+                → _≡_ {A = DocumentRead} (record { outcome = Accepted; document = d }) (documentRead (tablesFile elementLimit g s 0))
+            unfolding tablesFile whole
+            read-accepted {past = past} l same =
+                let (rs, e, keeps) = found in
+                let passes = taken-passed (elementsJudged g (elementsOf elementLimit rs) 1 (length rs) s (last .at)) (judged rs keeps) l in
+                let file : tablesFile elementLimit g s 0 ≡ got (elementsOf elementLimit rs) (past .at) = simp (e, ended, once rs keeps, passes) in
+                rw (file, same ∙ keeps-document keeps (once rs keeps))
 
-              once : (rs : List Row) → Keeps (x .gathered) rs → eachOnce (length rs) rs ≡ true
-              once rs keeps = sym (keeps .once) ∙ sym o ∙ not-false b p
-
-              pub read-misjudged : {y : DocumentRead} {r : Refusal} → y ≡ record { outcome = outcomeOf (readOf j); document = documentOf [] } → j ≡ Refused r
-                  → y ≡ documentRead (tablesFile elementLimit g s 0)
-              unfolding tablesFile whole
-              read-misjudged i l =
-                  let (rs, e, keeps) = found in
-                  let stop = handed-passed (elementsJudged g (elementsOf elementLimit rs) 1 (length rs) s (last .at)) (judged rs keeps) l in
-                  away i l (simp (e, ended, once rs keeps, stop))
-
-              pub read-accepted : {n : ℕ} {d : Cursor} → j ≡ Got n d
-                  → _≡_ {A = DocumentRead} (record { outcome = Accepted; document = record { count = x .gathered .total; elements = x .gathered .elements } }) (documentRead (tablesFile elementLimit g s 0))
-              unfolding tablesFile whole
-              read-accepted {d = d} l =
-                  let (rs, e, keeps) = found in
-                  let passes = taken-passed (elementsJudged g (elementsOf elementLimit rs) 1 (length rs) s (last .at)) (judged rs keeps) l in
-                  let file : tablesFile elementLimit g s 0 ≡ got (elementsOf elementLimit rs) (d .at) = simp (e, ended, once rs keeps, passes) in
-                  rw (file, keeps-document keeps (once rs keeps))
-
-pub ruleset read-laws = (read-refused, read-empty, read-extra, read-repeated, read-misjudged, read-accepted, needs)
+pub ruleset read-laws = (place-laws, blank-none, read-refused, read-extra, read-repeated, read-misjudged, read-accepted, needs)

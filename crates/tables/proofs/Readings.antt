@@ -7,8 +7,7 @@ use Rattle.fields.specs.Read.{Read, got, refused}
 use Rattle.fields.specs.declared.Cursor.{Cursor}
 use Rattle.fields.specs.declared.Field.{Field}
 use Rattle.fields.specs.declared.Field.the-variants.{Got, Refused}
-use Rattle.tables.specs.declared.Gathered.{Gathered}
-use Rattle.tables.specs.Kept.{beside, mapped, Sound, Answers}
+use Rattle.tables.specs.Kept.{beside, mapped, Gathered, Sound, Answers}
 
 pub got-same : {A : Type 0} {a b : A} {n m : ℕ} → got a n ≡ got b m → (a ≡ b) × (n ≡ m)
 got-same h = (cc, cc)
@@ -25,5 +24,5 @@ module _ {A : Type 0} {x : Field} (a : A) {e : Read A} (h : beside x a ≡ e) wh
   pub beside-refused : {r : Refusal} → x ≡ Refused r → e ≡ refused r
   beside-refused q = sym h ∙ ap (λ (f : Field). beside f a) q
 
-pub turned-away : {x : Field} {c : Gathered} {w : Read Gathered} {r : Refusal} → Sound c → x ≡ Refused r → w ≡ refused r → Answers (record { next = x; gathered = c }) w
+pub turned-away : {x : Field} {c : Gathered} {w : Read Gathered} {r : Refusal} → Sound c → x ≡ Refused r → w ≡ refused r → Answers x c w
 turned-away {c = c} sound q h = record { sound = sound; right = ap (λ (f : Field). beside f c) q ∙ sym h }

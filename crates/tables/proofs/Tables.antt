@@ -6,12 +6,9 @@ use native.Mathlib.Omega.{arith}
 use native.Mathlib.Numerals.{add-one}
 use native.Mathlib.Nat.{add-zero, sub-zero}
 use lib.Dec.{ltb, leb}
-use lib.ListN.{length, getD, take, drop, set, length-set}
-use mir.Syntax.{w8}
-use mir.Val.{Fits}
+use lib.ListN.{length, getD, take, drop, length-set}
 use borrow.Author.Needs.{needs}
 use borrow.Author.Tests.{le-leb, lt-leb, ltb-true}
-use Rattle.meaning.specs.declared.Element.{Element}
 use Rattle.meaning.specs.declared.Reason.the-variants.{Ended, Bound}
 use Rattle.meaning.specs.declared.Refusal.{Refusal}
 use Rattle.meaning.specs.Limits.{elementLimit}
@@ -24,38 +21,15 @@ use Rattle.fields.proofs.Laws.{taken, handed}
 use Rattle.fields.proofs.Formats.{bind-out, pick-out}
 use Rattle.tables.specs.declared.Row.{Row}
 use Rattle.tables.specs.declared.RowRead.{RowRead}
-use Rattle.tables.specs.declared.Gathered.{Gathered}
-use Rattle.tables.specs.declared.GatheredRead.{GatheredRead}
 use Rattle.tables.specs.Edg.{rowRead, rowsRead, tablesRead}
-use Rattle.tables.specs.Kept.{beside, mapped, none, put, added, Sound, GoodRow, Answers}
-use Rattle.tables.proofs.Lists.{All, all-none, all-append, set-keeps, same-anywhere}
+use Rattle.tables.specs.Kept.{beside, mapped, Gathered, none, put, added, Sound, GoodRow, Answers}
+use Rattle.tables.proofs.Lists.{All, all-none, all-append, set-keeps}
 use Rattle.tables.proofs.Readings.{got-same, mapped-refused, beside-got, beside-refused, turned-away}
+use Rattle.tables.proofs.Places.{none-sound, place-laws}
 use Rattle.tables.proofs.Rows.{row-out, rows-out}
 use Rattle.tables.proofs.Stretch.{stretch-got, stretch-refused}
 
 -- what is kept of rows is sound
-pub none-sound : Sound none
-unfolding none
-none-sound = record {
-  elements-long = refl;
-  times-long = refl;
-  times-most = λ i. omega (arith, same-anywhere {A = ℕ} 0 elementLimit i);
-  total-most = omega arith;
-  falling = λ i. omega (arith, ap (λ (e : Element). e .parent) (same-anywhere documentNode elementLimit i));
-}
-
--- no number came more often than there were rows
-put-room : (c : Gathered) (i : ℕ) → Sound c → c .total < elementLimit → Fits w8 (getD (c .times) i 0 + 1)
-put-room c i h l = record { fits = omega (arith, h .times-most i) }
-
-pub put-is : (c : Gathered) (r : Row) {i : ℕ} → i ≡ r .number → record {
-  elements = set (c .elements) (i - 1) (r .element);
-  times = set (c .times) (i - 1) (getD (c .times) (i - 1) 0 + 1);
-  total = c .total + 1;
-} ≡ put c r
-unfolding put
-put-is c r e = rw e
-
 module _ (c : Gathered) (r : Row) (sound : Sound c) (room : c .total < elementLimit) (good : GoodRow elementLimit r) where
   pub put-sound : Sound (put c r)
   unfolding put
@@ -105,7 +79,7 @@ module _ (t last n : ℕ) (s : List ℕ) (at : ℕ) (c : Gathered) where
       put-first (refused q) = refl
 
 module _ {w : Read Gathered} {t : ℕ} {s : List ℕ} {c : Gathered} {last n : ℕ} {cursor : Cursor} (u : Upto w t s c last n (cursor .at)) where
-  pub upto-end : n ≤ 0 → Answers (record { next = Got 0 cursor; gathered = c }) w
+  pub upto-end : n ≤ 0 → Answers (Got 0 cursor) c w
   unfolding mapped added rowsRead
   upto-end h = let e : n ≡ 0 = omega arith in record { sound = u .sound; right = sym (rw e at (u .rest)) }
 
@@ -113,22 +87,12 @@ module _ {w : Read Gathered} {t : ℕ} {s : List ℕ} {c : Gathered} {last n : �
     row-turn : w ≡ mapped (added c) (rowsRead elementLimit t last (suc (n - 1)) s (cursor .at))
     row-turn = let e : n ≡ suc (n - 1) = omega arith in u .rest ∙ ap (λ m. mapped (added c) (rowsRead elementLimit t last m s (cursor .at))) e
 
-    pub upto-refused : {r : Refusal} → x .next ≡ Refused r → Answers (record { next = x .next; gathered = c }) w
+    pub upto-refused : {r : Refusal} → x .next ≡ Refused r → Answers (x .next) c w
     upto-refused q = turned-away (u .sound) q (row-turn ∙ rows-stop t last (n - 1) s (cursor .at) c (beside-refused (x .row) h q))
 
     module _ {v : ℕ} {after : Cursor} (q : x .next ≡ Got v after) where
       pub upto-good : GoodRow elementLimit (x .row)
       upto-good = row-out elementLimit t last s (cursor .at) (beside-got (x .row) h q) .good
-
-      -- its place, and room for one more there
-      pub upto-positive : {i : ℕ} → i ≡ x .row .number → 1 ≤ i
-      upto-positive e = omega (arith, upto-good .positive)
-
-      pub upto-place : {i : ℕ} → i ≡ x .row .number → i - 1 < elementLimit
-      upto-place e = omega (arith, upto-good .positive, upto-good .most)
-
-      pub upto-fits : (i : ℕ) → Fits w8 (getD (c .times) i 0 + 1)
-      upto-fits i = let room = u .room in put-room c i (u .sound) (omega arith)
 
       pub upto-again : {d : Gathered} → d ≡ put c (x .row) → Upto w t s d (x .row .number) (n - 1) (after .at)
       unfolding put
@@ -140,7 +104,7 @@ module _ {w : Read Gathered} {t : ℕ} {s : List ℕ} {c : Gathered} {last n : �
             rest = row-turn ∙ rows-more t last (n - 1) s (cursor .at) c (beside-got (x .row) h q);
           })
 
-pub ruleset table-laws = (put-is, upto-start, upto-end, upto-refused, upto-positive, upto-place, upto-fits, upto-again, needs)
+pub ruleset table-laws = (place-laws, upto-start, upto-end, upto-refused, upto-good, upto-again, needs)
 
 -- The loop over the types: w is what all tables come to, and c what is kept of those below kind.
 pub record Below (w : Read Gathered) (s : List ℕ) (k : ℕ) (c : Gathered) (kind at : ℕ) : Type 0 where
@@ -207,7 +171,7 @@ unfolding none
 below-none s k at e = rw e (record { sound = none-sound; most = omega arith; rest = simp sub-zero })
 
 module _ {w : Read Gathered} {s : List ℕ} {k : ℕ} {c : Gathered} {kind : ℕ} {cursor : Cursor} (b : Below w s k c kind (cursor .at)) where
-  pub below-end : k ≤ kind → Answers (record { next = Got 0 cursor; gathered = c }) w
+  pub below-end : k ≤ kind → Answers (Got 0 cursor) c w
   unfolding mapped added tablesRead
   below-end h = let e : k - kind ≡ 0 = omega arith in record { sound = b .sound; right = sym (rw e at (b .rest)) }
 
@@ -216,11 +180,11 @@ module _ {w : Read Gathered} {s : List ℕ} {k : ℕ} {c : Gathered} {kind : ℕ
     table-turn = let e : k - kind ≡ suc (k - suc kind) = omega arith in b .rest ∙ ap (λ m. mapped (added c) (tablesRead elementLimit kind (c .total) m s (cursor .at))) e
 
     module _ {x : Field} (h : readOf x ≡ byte s (cursor .at)) where
-      pub below-uncounted : {r : Refusal} → x ≡ Refused r → Answers (record { next = x; gathered = c }) w
+      pub below-uncounted : {r : Refusal} → x ≡ Refused r → Answers x c w
       below-uncounted q = turned-away (b .sound) q (table-turn ∙ tables-uncounted kind (k - suc kind) s (cursor .at) c (handed h q))
 
       module _ {count : ℕ} {after : Cursor} (q : x ≡ Got count after) {n : ℕ} (wide : n ≡ count) where
-        pub below-many : {y : Field} → elementLimit - c .total < n → y ≡ Refused (record { reason = Bound }) → Answers (record { next = y; gathered = c }) w
+        pub below-many : {y : Field} → elementLimit - c .total < n → y ≡ Refused (record { reason = Bound }) → Answers y c w
         below-many m j =
             let most = b .sound .total-most in
             turned-away (b .sound) j (table-turn ∙ tables-many kind (k - suc kind) s (cursor .at) c (taken h q) (omega arith))
@@ -232,25 +196,25 @@ module _ {w : Read Gathered} {s : List ℕ} {k : ℕ} {c : Gathered} {kind : ℕ
           pub below-room : Sound c × (c .total + count ≤ elementLimit)
           below-room = (b .sound, room)
 
-          module _ (y : GatheredRead) (t : Answers y (mapped (added c) (rowsRead elementLimit kind 0 count (take (e - after .at) (drop (after .at) s)) 0))) where
+          module _ {y : Field} {d : Gathered} (t : Answers y d (mapped (added c) (rowsRead elementLimit kind 0 count (take (e - after .at) (drop (after .at) s)) 0))) where
             from : after .at ≤ e
             from = stretch-from s (cursor .at) h q end
 
             to : e ≤ length s
             to = stretch-to s (cursor .at) h q end
 
-            pub below-refused : {r : Refusal} → y .next ≡ Refused r → Answers y w
+            pub below-refused : {r : Refusal} → y ≡ Refused r → Answers y d w
             below-refused j =
-                let stop = mapped-refused (added c) _ (beside-refused (y .gathered) (t .right) j) in
+                let stop = mapped-refused (added c) _ (beside-refused d (t .right) j) in
                 turned-away (t .sound) j
                 (table-turn ∙ tables-stop kind (k - suc kind) s (cursor .at) c (taken h q) room (stretch-refused elementLimit kind s (after .at) e from to count end stop))
 
-            pub below-again : {v : ℕ} {d : Cursor} → y .next ≡ Got v d → Below w s k (y .gathered) (kind + 1) e
+            pub below-again : {v : ℕ} {last : Cursor} → y ≡ Got v last → Below w s k d (kind + 1) e
             unfolding mapped
             below-again j =
-                let (rs, m, i, g) = bind-out _ _ (beside-got (y .gathered) (t .right) j) in
+                let (rs, m, i, g) = bind-out _ _ (beside-got d (t .right) j) in
                 let more = tables-more kind (k - suc kind) s (cursor .at) c (taken h q) room (stretch-got elementLimit kind s (after .at) e from to count end i) in
-                let kept : added c rs ≡ y .gathered = cc in
+                let kept : added c rs ≡ d = cc in
                 rw add-one (record { sound = t .sound; most = omega arith; rest = rw kept at (table-turn ∙ more) })
 
-pub ruleset tables-laws = (counted-inside, stretch-from, stretch-to, below-none, below-end, below-uncounted, below-many, below-room, below-refused, below-again, needs)
+pub ruleset tables-laws = (place-laws, counted-inside, stretch-from, stretch-to, below-none, below-end, below-uncounted, below-many, below-room, below-refused, below-again, needs)

@@ -1,23 +1,18 @@
 -- What the reader keeps of the rows so far, and how its functions' answers say what was read: for contracts inside this crate.
-use Prim.Native.Nat.{ℕ, zero, suc, _+_, _-_, _≤_, _<_}
+use Prim.Native.Nat.{ℕ, zero, suc, _+_, _-_, _/_, _%_, _≤_, _<_}
 use mathlib.Core.Path.{_≡_}
 use mathlib.Core.Bool.{Bool, true, _&&_}
-use mathlib.Core.List.{List, [], _∷_}
+use mathlib.Core.List.{List, [], _∷_, map}
 use lib.Dec.{eqb}
 use lib.ListN.{length, getD, take, set, replicate}
 use Rattle.meaning.specs.declared.Document.{Document}
 use Rattle.meaning.specs.declared.Element.{Element}
-use Rattle.meaning.specs.declared.Graph.{Graph}
-use Rattle.meaning.specs.declared.Reason.the-variants.{Bound}
 use Rattle.meaning.specs.Limits.{elementLimit}
 use Rattle.meaning.specs.Documents.{documentNode}
-use Rattle.fields.specs.Read.{Read, got, refused, bind, Reader, _>>=_, _>>_, judge, byte, header}
+use Rattle.fields.specs.Read.{Read, got, refused, bind}
 use Rattle.fields.specs.declared.Field.{Field}
 use Rattle.fields.specs.declared.Field.the-variants.{Got, Refused}
 use Rattle.tables.specs.declared.Row.{Row}
-use Rattle.tables.specs.declared.Gathered.{Gathered}
-use Rattle.tables.specs.declared.GatheredRead.{GatheredRead}
-use Rattle.tables.specs.Edg.{tablesRead}
 
 -- what stands beside a field's answer was read, or the refusal was met
 abbrev pub beside : {A : Type 0} → Field → A → Read A
@@ -27,13 +22,22 @@ beside (Refused r) a = refused r
 unfoldable pub mapped : {A B : Type 0} → (A → B) → Read A → Read B
 mapped f e = bind e (λ a at. got (f a) at)
 
--- header, k and the tables, before the total is judged
-unfoldable pub allRows : ℕ → Graph → Reader (List Row)
-allRows limit g = do
-  header 0x45 0x44 0x47
-  k ← byte
-  judge (eqb k (g .k)) Bound
-  tablesRead limit 0 0 k
+-- what the rows so far come to: each element in its number's place, how often each number came, and how many rows there were
+pub record Gathered : Type 0 where
+  pub elements : List Element
+  pub times : List ℕ
+  pub total : ℕ
+
+-- an element in 32 bits: parent, type and text number, from the highest bits down
+unfoldable pub elementIn : ℕ → Element
+elementIn n = record { parent = n / 16777216; kind = n / 65536 % 256; text = n % 65536 }
+
+-- what is kept of the rows in the places that are lent for it
+abbrev pub gatheredIn : List ℕ → List ℕ → ℕ → Gathered
+gatheredIn kept times total = record { elements = map elementIn kept; times = times; total = total }
+
+abbrev pub documentIn : List ℕ → ℕ → Document
+documentIn kept total = record { count = total; elements = map elementIn kept }
 
 unfoldable pub none : Gathered
 none = record { elements = replicate elementLimit documentNode; times = replicate elementLimit 0; total = 0 }
@@ -65,9 +69,10 @@ pub record GoodRow (limit : ℕ) (r : Row) : Type 0 where
   pub most : r .number ≤ limit
   pub falling : r .element .parent < r .number
 
-pub record Answers (r : GatheredRead) (e : Read Gathered) : Type 0 where
-  pub sound : Sound (r .gathered)
-  pub right : beside (r .next) (r .gathered) ≡ e
+-- e was read: it is kept, beside where reading goes on, or the refusal was met
+pub record Answers (next : Field) (c : Gathered) (e : Read Gathered) : Type 0 where
+  pub sound : Sound c
+  pub right : beside next c ≡ e
 
 unfoldable pub ones : ℕ → List ℕ → Bool
 ones zero ts = true

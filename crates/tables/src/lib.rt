@@ -7,8 +7,8 @@ ghost use Rattle.meaning.specs.Limits.{elementLimit};
 ghost use Rattle.meaning.specs.Documents.{view, node, below, parentRule, edgeRule};
 ghost use Rattle.fields.specs.Read.{readOf, passed};
 ghost use Rattle.fields.specs.Outcomes.{documentRead};
-ghost use Rattle.tables.specs.Edg.{rowRule, rowRead, rowsRead, tablesRead, elementJudged, elementsJudged, tablesFile};
-ghost use Rattle.tables.specs.Kept.{beside, mapped, allRows, none, added, Sound, Answers, ones, listed, Climbable};
+ghost use Rattle.tables.specs.Edg.{rowRule, rowRead, rowsRead, tablesRead, rowsFile, elementJudged, elementsJudged, tablesFile};
+ghost use Rattle.tables.specs.Kept.{beside, mapped, elementIn, gatheredIn, documentIn, none, put, added, Sound, GoodRow, Answers, ones, listed, Climbable};
 use fields::Cursor;
 use fields::DOCUMENT_NODE;
 use fields::Field;
@@ -28,6 +28,9 @@ pub struct Row {
     pub element: Element,
 }
 
+// The document node, packed.
+const BLANK: u32 = 1048576;
+
 const NO_ROW: Row = Row {
     number: 0,
     element: DOCUMENT_NODE,
@@ -39,18 +42,10 @@ struct RowRead {
     row: Row,
 }
 
-// What the rows so far come to: each element in its number's place, how often each number came, and how many rows there were.
-// It is written in place, and handed on as seldom as can be: its copies are most of the stack of a call that reads tables.
-struct Gathered {
-    elements: [Element; 127],
-    times: [u8; 127],
-    total: usize,
-}
-
-// The same, beside where reading goes on or the refusal.
-struct GatheredRead {
+// How many rows there were, beside where reading goes on or the refusal.
+struct TotalRead {
     next: Field,
-    gathered: Gathered,
+    total: usize,
 }
 
 fn wide(n: u16) -> usize
@@ -113,39 +108,68 @@ fn read_row(part: &[u8], cursor: Cursor, kind: u8, before: u16) -> RowRead
     }
 }
 
-impl Gathered {
-    fn none() -> Self
-        ensures { λ r. ⌜ r ≡ none ⌝ }
-    {
-        Gathered {
-            elements: [DOCUMENT_NODE; 127],
-            times: [0; 127],
-            total: 0,
-        }
-    }
+fn long(n: u8) -> u32
+    ensures { λ r. ⌜ r ≡ n ⌝ }
+{
+    n as u32
+}
 
-    // Whether each number from 1 to the total came once.
-    fn each_once(self) -> bool
-        requires { ⌜ Sound self ⌝ }
-        ensures { λ r. ⌜ r ≡ ones (self .total) (self .times) ⌝ }
-    {
-        let mut i: usize = 0;
-        while i < self.total {
-            if self.times[i] != 1 {
-                return false;
-            }
-            i += 1;
-        }
-        true
+// An element in 32 bits, so that a slice of numbers holds elements.
+fn packed(element: Element) -> u32
+    ensures { λ r. ⌜ elementIn r ≡ element ⌝ }
+{
+    (long(element.parent) * 256 + long(element.kind)) * 65536 + element.text as u32
+}
+
+fn unpacked(n: u32) -> Element
+    ensures { λ r. ⌜ r ≡ elementIn n ⌝ }
+{
+    Element {
+        parent: (n / 16777216) as u8,
+        kind: (n / 65536 % 256) as u8,
+        text: (n % 65536) as u16,
     }
 }
 
-// The rows of one type: `part` holds their bytes, as far as the file has them.
-fn read_table(part: &[u8], kind: u8, count: u16, before: Gathered) -> GatheredRead
-    requires { ⌜ Sound before × (before .total + count ≤ elementLimit) ⌝ }
-    ensures { λ r. ⌜ Answers r (mapped (added before) (rowsRead elementLimit kind 0 count (now (part .entry)) 0)) ⌝ }
+// Keeps one more row: the element in its number's place, and that the number came.
+fn keep(kept: &mut [u32], times: &mut [u8], total: usize, row: Row)
+    requires { ⌜ Sound (gatheredIn (now kept) (now times) total) × (total < elementLimit) × GoodRow elementLimit row ⌝ }
+    ensures { λ r. ⌜ gatheredIn (now (kept .exit)) (now (times .exit)) (total + 1) ≡ put (gatheredIn (now (kept .entry)) (now (times .entry)) total) row ⌝ }
 {
-    let mut gathered = before;
+    let at = wide(row.number) - 1;
+    let element = row.element;
+    kept[at] = packed(element);
+    times[at] = times[at] + 1;
+}
+
+// Whether each number from 1 to the total came once.
+fn each_once(times: &[u8], total: usize) -> bool
+    requires { ⌜ total ≤ length (now times) ⌝ }
+    ensures { λ r. ⌜ r ≡ ones total (now (times .entry)) ⌝ }
+{
+    let mut i: usize = 0;
+    while i < total {
+        if times[i] != 1 {
+            return false;
+        }
+        i += 1;
+    }
+    true
+}
+
+// The rows of one type: `part` holds their bytes, as far as the file has them.
+fn read_table(
+    part: &[u8],
+    kind: u8,
+    count: u16,
+    kept: &mut [u32],
+    times: &mut [u8],
+    before: usize,
+) -> TotalRead
+    requires { ⌜ Sound (gatheredIn (now kept) (now times) before) × (before + count ≤ elementLimit) ⌝ }
+    ensures { λ r. ⌜ Answers (r .next) (gatheredIn (now (kept .exit)) (now (times .exit)) (r .total)) (mapped (added (gatheredIn (now (kept .entry)) (now (times .entry)) before)) (rowsRead elementLimit kind 0 count (now (part .entry)) 0)) ⌝ }
+{
+    let mut total = before;
     let mut cursor = Cursor::start();
     let mut last: u16 = 0;
     let mut left = count;
@@ -153,20 +177,17 @@ fn read_table(part: &[u8], kind: u8, count: u16, before: Gathered) -> GatheredRe
         let read = read_row(part, cursor, kind, last);
         let next = read.next;
         let Field::Got(_, after) = next else {
-            return GatheredRead { next, gathered };
+            return TotalRead { next, total };
         };
         let row = read.row;
-        let at = wide(row.number) - 1;
-        let element = row.element;
-        gathered.elements[at] = element;
-        gathered.times[at] = gathered.times[at] + 1;
-        gathered.total = gathered.total + 1;
+        keep(kept, times, total, row);
+        total += 1;
         cursor = after;
         last = row.number;
         left -= 1;
     }
     let next = Field::Got(0, cursor);
-    GatheredRead { next, gathered }
+    TotalRead { next, total }
 }
 
 // Where so many rows from a on end: at the end of the file where that comes first.
@@ -181,84 +202,110 @@ fn stretch_end(s: &[u8], a: usize, count: u16) -> usize
     a + size
 }
 
-fn read_tables(s: &[u8], start: Cursor, k: u8) -> GatheredRead
-    ensures { λ r. ⌜ Answers r (mapped (added none) (tablesRead elementLimit 0 0 k (now (s .entry)) (start .at))) ⌝ }
+fn read_tables(s: &[u8], start: Cursor, k: u8, kept: &mut [u32], times: &mut [u8]) -> TotalRead
+    requires { ⌜ gatheredIn (now kept) (now times) 0 ≡ none ⌝ }
+    ensures { λ r. ⌜ Answers (r .next) (gatheredIn (now (kept .exit)) (now (times .exit)) (r .total)) (mapped (added none) (tablesRead elementLimit 0 0 k (now (s .entry)) (start .at))) ⌝ }
 {
-    let gathered = Gathered::none();
-    let next = Field::Got(0, start);
-    let mut read = GatheredRead { next, gathered };
+    let mut total: usize = 0;
     let mut cursor = start;
     let mut kind: u8 = 0;
     while kind < k {
         let next = cursor.byte(s);
         let Field::Got(count, after) = next else {
-            let gathered = read.gathered;
-            return GatheredRead { next, gathered };
+            return TotalRead { next, total };
         };
-        if LIMIT - read.gathered.total < wide(count) {
+        if LIMIT - total < wide(count) {
             let next = fields::refuse(Reason::Bound);
-            let gathered = read.gathered;
-            return GatheredRead { next, gathered };
+            return TotalRead { next, total };
         }
         let a = after.at;
         let e = stretch_end(s, a, count);
-        read = read_table(&s[a..e], kind, count, read.gathered);
+        let read = read_table(&s[a..e], kind, count, kept, times, total);
         let next = read.next;
         let Field::Got(_, _) = next else {
             return read;
         };
+        total = read.total;
         cursor = Cursor { at: e };
         kind += 1;
     }
     let next = Field::Got(0, cursor);
-    let gathered = read.gathered;
-    GatheredRead { next, gathered }
+    TotalRead { next, total }
 }
 
 // Header, k and the tables.
-fn read_rows(s: &[u8], g: Graph) -> GatheredRead
-    ensures { λ r. ⌜ Answers r (mapped (added none) (allRows elementLimit g (now (s .entry)) 0)) ⌝ }
+fn read_rows(s: &[u8], g: Graph, kept: &mut [u32], times: &mut [u8]) -> TotalRead
+    requires { ⌜ gatheredIn (now kept) (now times) 0 ≡ none ⌝ }
+    ensures { λ r. ⌜ Answers (r .next) (gatheredIn (now (kept .exit)) (now (times .exit)) (r .total)) (mapped (added none) (rowsFile elementLimit g (now (s .entry)) 0)) ⌝ }
 {
-    let gathered = Gathered::none();
-    let next = Cursor::start().header(s, b'E', b'D', b'G');
+    let start = Cursor { at: 0 };
+    let next = start.header(s, b'E', b'D', b'G');
     let Field::Got(_, first) = next else {
-        return GatheredRead { next, gathered };
+        return TotalRead { next, total: 0 };
     };
     let next = first.byte(s);
     let Field::Got(k, after) = next else {
-        return GatheredRead { next, gathered };
+        return TotalRead { next, total: 0 };
     };
     let types = g.k;
     if wide(k) != place(types) {
         let next = fields::refuse(Reason::Bound);
-        return GatheredRead { next, gathered };
+        return TotalRead { next, total: 0 };
     }
-    read_tables(s, after, types)
+    let read = read_tables(s, after, types, kept, times);
+    let next = read.next;
+    let Field::Got(_, _) = next else {
+        return read;
+    };
+    let total = read.total;
+    if total == 0 {
+        let next = fields::refuse(Reason::Bound);
+        return TotalRead { next, total };
+    }
+    read
 }
 
-fn node_at(document: Document, v: u8) -> Element
-    requires { ⌜ Climbable document ⌝ }
-    ensures { λ r. ⌜ r ≡ node (listed document) v ⌝ }
+// The elements that are kept.
+fn document_in(kept: &[u32], total: usize) -> Document
+    requires { ⌜ length (now kept) ≡ elementLimit ⌝ }
+    ensures { λ r. ⌜ r ≡ documentIn (now (kept .entry)) total ⌝ }
+{
+    let mut elements = [DOCUMENT_NODE; 127];
+    let mut i: usize = 0;
+    while i < LIMIT {
+        let element = unpacked(kept[i]);
+        elements[i] = element;
+        i += 1;
+    }
+    Document {
+        count: total,
+        elements,
+    }
+}
+
+fn node_at(kept: &[u32], total: usize, v: u8) -> Element
+    requires { ⌜ Climbable (documentIn (now kept) total) ⌝ }
+    ensures { λ r. ⌜ r ≡ node (listed (documentIn (now (kept .entry)) total)) v ⌝ }
 {
     let number = place(v);
     if number == 0 {
         return DOCUMENT_NODE;
     }
-    if document.count < number {
+    if total < number {
         return DOCUMENT_NODE;
     }
     let i = number - 1;
-    document.elements[i]
+    unpacked(kept[i])
 }
 
 // Whether v is met on the way up from w.
-fn is_ancestor(document: Document, v: u8, w: u8) -> bool
-    requires { ⌜ Climbable document × (w ≤ document .count) ⌝ }
-    ensures { λ r. ⌜ r ≡ below (view (listed document)) v w ⌝ }
+fn is_ancestor(kept: &[u32], total: usize, v: u8, w: u8) -> bool
+    requires { ⌜ Climbable (documentIn (now kept) total) × (w ≤ total) ⌝ }
+    ensures { λ r. ⌜ r ≡ below (view (listed (documentIn (now (kept .entry)) total))) v w ⌝ }
 {
     let mut node = w;
     while node > 0 {
-        let parent = node_at(document, node).parent;
+        let parent = node_at(kept, total, node).parent;
         if parent == v {
             return true;
         }
@@ -267,11 +314,11 @@ fn is_ancestor(document: Document, v: u8, w: u8) -> bool
     false
 }
 
-fn keeps_parent_rule(document: Document, i: u8) -> bool
-    requires { ⌜ Climbable document × (1 ≤ i) × (i ≤ document .count) ⌝ }
-    ensures { λ r. ⌜ r ≡ parentRule (view (listed document)) i ⌝ }
+fn keeps_parent_rule(kept: &[u32], total: usize, i: u8) -> bool
+    requires { ⌜ Climbable (documentIn (now kept) total) × (1 ≤ i) × (i ≤ total) ⌝ }
+    ensures { λ r. ⌜ r ≡ parentRule (view (listed (documentIn (now (kept .entry)) total))) i ⌝ }
 {
-    let parent = node_at(document, i).parent;
+    let parent = node_at(kept, total, i).parent;
     if i == 1 {
         return parent == 0;
     }
@@ -282,40 +329,39 @@ fn keeps_parent_rule(document: Document, i: u8) -> bool
     if parent == before {
         return true;
     }
-    is_ancestor(document, parent, before)
+    is_ancestor(kept, total, parent, before)
 }
 
-fn keeps_edge_rule(g: Graph, document: Document, i: u8) -> bool
-    requires { ⌜ Climbable document ⌝ }
-    ensures { λ r. ⌜ r ≡ edgeRule g (view (listed document)) i ⌝ }
+fn keeps_edge_rule(g: Graph, kept: &[u32], total: usize, i: u8) -> bool
+    requires { ⌜ Climbable (documentIn (now kept) total) ⌝ }
+    ensures { λ r. ⌜ r ≡ edgeRule g (view (listed (documentIn (now (kept .entry)) total))) i ⌝ }
 {
-    let element = node_at(document, i);
-    let parent = node_at(document, element.parent);
+    let element = node_at(kept, total, i);
+    let parent = node_at(kept, total, element.parent);
     graph::is_child(g, parent.kind, element.kind)
 }
 
 // The file has ended: nothing is read any more, and the cursor stays.
-fn judge_element(g: Graph, document: Document, i: u8, end: Cursor) -> Field
-    requires { ⌜ Climbable document × (1 ≤ i) × (i ≤ document .count) ⌝ }
-    ensures { λ r. ⌜ readOf r ≡ passed (elementJudged g (listed document) i [] (end .at)) ⌝ }
+fn judge_element(g: Graph, kept: &[u32], total: usize, i: u8, end: Cursor) -> Field
+    requires { ⌜ Climbable (documentIn (now kept) total) × (1 ≤ i) × (i ≤ total) ⌝ }
+    ensures { λ r. ⌜ readOf r ≡ passed (elementJudged g (listed (documentIn (now (kept .entry)) total)) i [] (end .at)) ⌝ }
 {
-    if !keeps_parent_rule(document, i) {
+    if !keeps_parent_rule(kept, total, i) {
         return fields::refuse(Reason::Number);
     }
-    if !keeps_edge_rule(g, document, i) {
+    if !keeps_edge_rule(g, kept, total, i) {
         return fields::refuse(Reason::Edge);
     }
     Field::Got(0, end)
 }
 
-fn judge_elements(g: Graph, document: Document, end: Cursor) -> Field
-    requires { ⌜ Climbable document ⌝ }
-    ensures { λ r. ⌜ readOf r ≡ passed (elementsJudged g (listed document) 1 (document .count) [] (end .at)) ⌝ }
+fn judge_elements(g: Graph, kept: &[u32], total: usize, end: Cursor) -> Field
+    requires { ⌜ Climbable (documentIn (now kept) total) ⌝ }
+    ensures { λ r. ⌜ readOf r ≡ passed (elementsJudged g (listed (documentIn (now (kept .entry)) total)) 1 total [] (end .at)) ⌝ }
 {
-    let count = document.count;
     let mut i: u8 = 1;
-    while place(i) <= count {
-        let judged = judge_element(g, document, i, end);
+    while place(i) <= total {
+        let judged = judge_element(g, kept, total, i, end);
         let Field::Got(_, _) = judged else {
             return judged;
         };
@@ -324,36 +370,31 @@ fn judge_elements(g: Graph, document: Document, end: Cursor) -> Field
     Field::Got(0, end)
 }
 
+// The rows are kept in two arrays that are lent to the functions above: handed on by value, each call would copy them.
 pub fn read(s: &[u8], g: Graph) -> DocumentRead
     ensures { λ r. ⌜ r ≡ documentRead (tablesFile elementLimit g (now (s .entry)) 0) ⌝ }
 {
-    let read = read_rows(s, g);
+    let mut kept = [BLANK; 127];
+    let mut times: [u8; 127] = [0; 127];
+    let read = read_rows(s, g, &mut kept, &mut times);
     let next = read.next;
     let Field::Got(_, end) = next else {
         return turned_away(next);
     };
-    if read.gathered.total == 0 {
-        return turned_away(fields::refuse(Reason::Bound));
-    }
     let ended = end.end(s);
     let Field::Got(_, _) = ended else {
         return turned_away(ended);
     };
-    let gathered = read.gathered;
-    if !gathered.each_once() {
+    let total = read.total;
+    if !each_once(&times, total) {
         return turned_away(fields::refuse(Reason::Number));
     }
-    let elements = gathered.elements;
-    let document = Document {
-        count: gathered.total,
-        elements,
-    };
-    let judged = judge_elements(g, document, end);
+    let judged = judge_elements(g, &kept, total, end);
     let Field::Got(_, _) = judged else {
         return turned_away(judged);
     };
     DocumentRead {
         outcome: Outcome::Accepted,
-        document,
+        document: document_in(&kept, total),
     }
 }

@@ -1,16 +1,34 @@
 -- No second outcome meets a call's contract.
 use Prim.Native.Nat.{ℕ}
-use mathlib.Core.Path.{_≡_, sym, _∙_}
+use mathlib.Core.Path.{_≡_, sym, ap, _∙_}
 use mathlib.Core.List.{List}
 use Rattle.meaning.specs.declared.Answer.{Answer}
-use Rattle.trammelbud.specs.Calls.{readGraph, readUnder, documentCount, tablesCount, queryCount, programCount}
+use Rattle.writing.specs.Lent.{Lent, Leaves}
+use Rattle.convert.specs.Convert.{shredded, rebuilt}
+use Rattle.announce.specs.Check.{checkOf}
+use Rattle.runner.specs.Run.{Ran, Gives, runOf}
+use Rattle.translator.specs.Translate.{translation}
+use Rattle.trammelbud.specs.Calls.{readGraph, readUnder, documentCount, tablesCount, queryCount, programCount, selectOf, listOf}
 
 -- a contract that two answers meet only if they are one
-abbrev pub Determines : (Answer → Type 0) → Type 0
-Determines C = (a b : Answer) → C a → C b → a ≡ b
+abbrev pub Determines : {A : Type 0} → (A → Type 0) → Type 0
+Determines {A} C = (a b : A) → C a → C b → a ≡ b
 
-equal-to : (e : Answer) → Determines (λ a. a ≡ e)
+-- the same of an answer with a lent buffer, and with two
+abbrev pub DeterminesBytes : (Answer → List ℕ → Type 0) → Type 0
+DeterminesBytes C = (a b : Answer) (x y : List ℕ) → C a x → C b y → (a ≡ b) × (x ≡ y)
+
+abbrev pub DeterminesBoth : (Answer → List ℕ → List ℕ → Type 0) → Type 0
+DeterminesBoth C = (a b : Answer) (x y v w : List ℕ) → C a x v → C b y w → (a ≡ b) × (x ≡ y) × (v ≡ w)
+
+equal-to : {A : Type 0} (e : A) → Determines (λ a. a ≡ e)
 equal-to e a b p q = p ∙ sym q
+
+left-in : (l : Lent) → DeterminesBytes (Leaves l)
+left-in l a b x y p q = let e = sym p ∙ q in (ap (λ z. z .answer) e, ap (λ z. z .bytes) e)
+
+left-by : (r : Ran) → DeterminesBoth (Gives r)
+left-by r a b x y v w p q = let e = sym p ∙ q in (ap (λ z. z .answer) e, ap (λ z. z .out) e, ap (λ z. z .work) e)
 
 pub read-graph : (gra : List ℕ) → Determines (λ a. a ≡ readGraph gra)
 read-graph gra = equal-to _
@@ -26,3 +44,24 @@ read-query gra qry = equal-to _
 
 pub read-program : (gra rel : List ℕ) → Determines (λ a. a ≡ readUnder (programCount rel) gra)
 read-program gra rel = equal-to _
+
+pub shred : (gra tre out : List ℕ) → DeterminesBytes (Leaves (shredded gra tre out))
+shred gra tre out = left-in (shredded gra tre out)
+
+pub rebuild : (gra edg out : List ℕ) → DeterminesBytes (Leaves (rebuilt gra edg out))
+rebuild gra edg out = left-in (rebuilt gra edg out)
+
+pub translate : (gra qry out : List ℕ) → DeterminesBytes (Leaves (translation gra qry out))
+translate gra qry out = left-in (translation gra qry out)
+
+pub check : (gra rel : List ℕ) → Determines (λ c. c ≡ checkOf gra rel)
+check gra rel = equal-to _
+
+pub run : (gra edg rel out work : List ℕ) → DeterminesBoth (Gives (runOf gra edg rel out work))
+run gra edg rel out work = left-by (runOf gra edg rel out work)
+
+pub select : (gra edg qry out work : List ℕ) → DeterminesBoth (Gives (selectOf gra edg qry out work))
+select gra edg qry out work = left-by (selectOf gra edg qry out work)
+
+pub list : (gra edg qry text work : List ℕ) → DeterminesBoth (Gives (listOf gra edg qry text work))
+list gra edg qry text work = left-by (listOf gra edg qry text work)

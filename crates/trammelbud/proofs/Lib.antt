@@ -2,3 +2,12 @@ pub mod Few
 pub mod Laws
 pub mod Determined
 pub mod Files
+pub mod Legal
+pub mod Named
+pub mod Given
+pub mod Demand1
+pub mod Translated
+pub mod Plans
+pub mod Told
+pub mod Demand2
+pub mod Demand3

@@ -1,16 +1,17 @@
 -- What is above the node reached is what is left to know, and each parent has a smaller number.
 use Rattle.meaning.specs.Documents.{view, below}
-use Rattle.tables.specs.Kept.{listed}
+use Rattle.tables.specs.Kept.{documentIn, listed}
 use Rattle.tables.proofs.Elements.{Climbing, climb-laws}
 use Rattle.tables.proofs.is_ancestor.Statement.{statement}
 use Rattle.tables.proofs.is_ancestor.Tie as tie
 
 abbrev Inv-loop : tie.InvT-loop
-Inv-loop document v w node₀ node =
-    Climbing document (below (view (listed document)) v w) v node
+Inv-loop kept total v w node₀ node =
+    Climbing (documentIn kept total) (below (view (listed (documentIn kept total))) v w) v node
 
 abbrev μ-loop : tie.MeasureT-loop
-μ-loop document v w node₀ node = node
+μ-loop kept total v w node₀ node =
+    node
 
 loop-holds : tie.Need-loop-holds Inv-loop μ-loop
 loop-holds c = search climb-laws

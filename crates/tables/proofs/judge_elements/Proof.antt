@@ -3,17 +3,18 @@ use Prim.Native.Nat.{suc, _-_}
 use mathlib.Core.List.{[]}
 use Rattle.fields.specs.Read.{passed}
 use Rattle.tables.specs.Edg.{elementsJudged}
-use Rattle.tables.specs.Kept.{listed}
+use Rattle.tables.specs.Kept.{documentIn, listed}
 use Rattle.tables.proofs.Elements.{Judging, judging-laws}
 use Rattle.tables.proofs.judge_elements.Statement.{statement}
 use Rattle.tables.proofs.judge_elements.Tie as tie
 
 abbrev Inv-loop : tie.InvT-loop
-Inv-loop g document end count i₀ i =
-    Judging g document (passed (elementsJudged g (listed document) 1 (document .count) [] (end .at))) (end .at) i
+Inv-loop g kept total end i₀ i =
+    Judging g (documentIn kept total) (passed (elementsJudged g (listed (documentIn kept total)) 1 total [] (end .at))) (end .at) i
 
 abbrev μ-loop : tie.MeasureT-loop
-μ-loop g document end count i₀ i = suc (document .count) - i
+μ-loop g kept total end i₀ i =
+    suc total - i
 
 loop-holds : tie.Need-loop-holds Inv-loop μ-loop
 loop-holds c = search judging-laws

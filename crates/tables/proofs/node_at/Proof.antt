@@ -15,11 +15,14 @@ returns-2 c = search node-laws
 sub-i : tie.Need-sub-i
 sub-i c = search node-laws
 
-mul-result : tie.Need-mul-result
-mul-result c = search node-laws
+mul-unpacked : tie.Need-mul-unpacked
+mul-unpacked c = search node-laws
 
-element-copy-out-result : tie.Need-element-copy-out-result
-element-copy-out-result c = search node-laws
+shared-slice-read-unpacked : tie.Need-shared-slice-read-unpacked
+shared-slice-read-unpacked c = search node-laws
+
+unpacked-requires : tie.Need-unpacked-requires
+unpacked-requires c κs = search node-laws
 
 returns-3 : tie.Need-returns-3
 returns-3 c = search node-laws
@@ -27,4 +30,12 @@ returns-3 c = search node-laws
 pub node-at-spec : {M : Type 1} → statement M
 node-at-spec =
     tie.close
-    (tie.spec place-requires returns returns-2 sub-i mul-result element-copy-out-result returns-3)
+    (tie.spec
+    place-requires
+    returns
+    returns-2
+    sub-i
+    mul-unpacked
+    shared-slice-read-unpacked
+    unpacked-requires
+    returns-3)

@@ -1,13 +1,7 @@
--- What the header or k refuses is handed on; past them it is what the tables come to.
+-- What the header, k or a table refuses is handed on; past the tables only a total of 0 is refused.
 use Rattle.tables.proofs.Reader.{rows-laws}
 use Rattle.tables.proofs.read_rows.Statement.{statement}
 use Rattle.tables.proofs.read_rows.Tie as tie
-
-none-requires : tie.Need-none-requires
-none-requires c κs = search rows-laws
-
-start-requires : tie.Need-start-requires
-start-requires c κs = search rows-laws
 
 header-requires : tie.Need-header-requires
 header-requires c κs = search rows-laws
@@ -48,15 +42,46 @@ returns-3 c = search rows-laws
 read-tables-requires : tie.Need-read-tables-requires
 read-tables-requires c κs = search rows-laws
 
+enum-told-3 : tie.Need-enum-told-3
+enum-told-3 c = search rows-laws
+
+enum-told-4 : tie.Need-enum-told-4
+enum-told-4 c = search rows-laws
+
+same-length : tie.Need-same-length
+same-length c = search rows-laws
+
+same-length-2 : tie.Need-same-length-2
+same-length-2 c = search rows-laws
+
 returns-4 : tie.Need-returns-4
 returns-4 c = search rows-laws
+
+refuse-requires-2 : tie.Need-refuse-requires-2
+refuse-requires-2 c κs = search rows-laws
+
+same-length-3 : tie.Need-same-length-3
+same-length-3 c = search rows-laws
+
+same-length-4 : tie.Need-same-length-4
+same-length-4 c = search rows-laws
+
+returns-5 : tie.Need-returns-5
+returns-5 c = search rows-laws
+
+same-length-5 : tie.Need-same-length-5
+same-length-5 c = search rows-laws
+
+same-length-6 : tie.Need-same-length-6
+same-length-6 c = search rows-laws
+
+returns-6 : tie.Need-returns-6
+returns-6 c = search rows-laws
 
 pub read-rows-spec : {M : Type 1} → statement M
 read-rows-spec =
     tie.close
     (tie.spec
-    none-requires
-    start-requires
     header-requires
     enum-known-next
     enum-told
@@ -70,4 +95,15 @@ read-rows-spec =
     refuse-requires
     returns-3
     read-tables-requires
-    returns-4)
+    enum-told-3
+    enum-told-4
+    same-length
+    same-length-2
+    returns-4
+    refuse-requires-2
+    same-length-3
+    same-length-4
+    returns-5
+    same-length-5
+    same-length-6
+    returns-6)

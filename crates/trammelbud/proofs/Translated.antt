@@ -1,0 +1,78 @@
+-- What translating leaves: the file of a legal program, which the program's reader accepts.
+use Prim.Native.Nat.{ℕ, _+_, _*_, _≤_}
+use mathlib.Core.Path.{_≡_, refl, sym, ap, _∙_}
+use mathlib.Core.Bool.{Bool, true, false}
+use mathlib.Core.List.{List}
+use native.Mathlib.Omega.{arith}
+use lib.Dec.{leb}
+use lib.ListN.{length}
+use borrow.Author.Tests.{le-leb, leb-true}
+use Rattle.meaning.specs.declared.Graph.{Graph}
+use Rattle.meaning.specs.declared.Reason.the-variants.{Steps, Room}
+use Rattle.meaning.specs.Limits.{stepLimit}
+use Rattle.meaning.specs.Queries.{XPath}
+use Rattle.meaning.specs.Operations.{LegalProgram}
+use Rattle.meaning.specs.Translation.{translated, stepCount}
+use Rattle.meaning.proofs.Counts.{translated-length, translated-legal}
+use Rattle.fields.specs.Read.{pick}
+use Rattle.program.specs.Rel.{programBytes}
+use Rattle.program.proofs.File.{program-written}
+use Rattle.program.proofs.Encoded.{program-length, program-bytes}
+use Rattle.writing.specs.Lent.{accepted, turnedAway, over, untouched, stored, lent, fileIn}
+use Rattle.writing.proofs.Stored.{stored-there, stored-file}
+use Rattle.translator.specs.Translate.{programOf, translatedQuery, translation}
+use Rattle.trammelbud.specs.Demands.{OfGraph, OfQuery, OfProgram}
+use Rattle.trammelbud.proofs.Legal.{graph-legal, query-legal}
+
+-- a file that was stored had its room
+stored-room : (file out : List ℕ) → stored file out .answer .number ≡ 0 → length file ≤ length out
+unfolding stored
+stored-room file out = by-room (leb (length file) (length out)) refl
+  where
+    by-room : (b : Bool) → leb (length file) (length out) ≡ b
+        → pick b (record { answer = accepted (length file); bytes = over 0 file out }) (untouched (record { reason = Room }) out) .answer .number ≡ 0 → length file ≤ length out
+    by-room true e h = leb-true (length file) (length out) e
+    by-room false e h = absurd (omega (arith, h))
+
+module _ {gra : List ℕ} {g : Graph} (graph : OfGraph gra g) {qry : List ℕ} {p : XPath} (query : OfQuery g qry p) (b : List ℕ) where
+  abbrev file : List ℕ
+  file = programBytes (translated g p)
+
+  -- a query of few steps is stored as its program; any other is turned away
+  few-stored : stepCount p ≤ stepLimit → translation gra qry b ≡ stored file b
+  unfolding translation translatedQuery programOf lent
+  few-stored few = rw (graph .accepts, query .accepts, le-leb (stepCount p) stepLimit few)
+
+  many-turned : leb (stepCount p) stepLimit ≡ false → translation gra qry b ≡ untouched (record { reason = Steps }) b
+  unfolding translation translatedQuery programOf lent
+  many-turned many = rw (graph .accepts, query .accepts, many)
+
+  file-length : length file ≡ 6 + 3 * stepCount p
+  file-length = program-length (translated g p) ∙ ap (λ n. 6 + 3 * n) (translated-length g p)
+
+  pub translate-answers : 6 + 3 * stepLimit ≤ length b
+      → translation gra qry b .answer ≡ pick (leb (stepCount p) stepLimit) (accepted (6 + 3 * stepCount p)) (turnedAway (record { reason = Steps }))
+  translate-answers room = by-count (leb (stepCount p) stepLimit) refl
+    where
+      by-count : (c : Bool) → leb (stepCount p) stepLimit ≡ c → translation gra qry b .answer ≡ pick c (accepted (6 + 3 * stepCount p)) (turnedAway (record { reason = Steps }))
+      by-count true e =
+          let few = leb-true (stepCount p) stepLimit e in
+          ap (λ l. l .answer) (few-stored few ∙ stored-there file b (omega (arith, file-length, few, room))) ∙ ap accepted file-length
+      by-count false e = ap (λ l. l .answer) (many-turned e)
+
+  module _ (h : translation gra qry b .answer .number ≡ 0) where
+    pub few-steps : stepCount p ≤ stepLimit
+    few-steps = by-count (leb (stepCount p) stepLimit) refl
+      where
+        by-count : (c : Bool) → leb (stepCount p) stepLimit ≡ c → stepCount p ≤ stepLimit
+        by-count true e = leb-true (stepCount p) stepLimit e
+        by-count false e = absurd (omega (arith, sym (ap (λ l. l .answer .number) (many-turned e)) ∙ h))
+
+    file-there : fileIn (translation gra qry b) ≡ file
+    file-there = ap fileIn (few-stored few-steps) ∙ stored-file file b (stored-room file b (sym (ap (λ l. l .answer .number) (few-stored few-steps)) ∙ h))
+
+    -- the file that was written holds the query's program
+    pub program-there : OfProgram g (fileIn (translation gra qry b)) (translated g p)
+    program-there =
+        let legal : LegalProgram stepLimit (g .k) (translated g p) = translated-legal stepLimit g (graph-legal graph) p (query-legal query) few-steps in
+        rw file-there record { bytes = program-bytes (graph-legal graph .most-types) legal; end = length file; accepts = program-written legal }

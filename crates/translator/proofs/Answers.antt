@@ -1,0 +1,162 @@
+-- One law for each answer of the translator: the first refusal met, or the program in the buffer.
+use Prim.Native.Nat.{ℕ, _+_, _*_, _≤_, _<_}
+use mathlib.Core.Path.{_≡_, refl, sym, ap, _∙_}
+use mathlib.Core.List.{List, [], _++_, append-nil}
+use native.Mathlib.Omega.{arith}
+use lib.ListN.{length, getD, drop}
+use mir.Syntax.{w8}
+use mir.Val.{Fits}
+use borrow.Author.Needs.{needs}
+use borrow.Author.Tests.{le-leb, lt-leb}
+use Rattle.meaning.specs.declared.Answer.{Answer}
+use Rattle.meaning.specs.declared.Graph.{Graph}
+use Rattle.meaning.specs.declared.Outcome.the-variants.{Accepted, Refused}
+use Rattle.meaning.specs.declared.Reason.the-variants.{Steps, Room}
+use Rattle.meaning.specs.declared.Refusal.{Refusal}
+use Rattle.meaning.specs.Limits.{document, kinds, queryLimit, stepLimit}
+use Rattle.meaning.specs.Graphs.{LegalGraph}
+use Rattle.meaning.specs.Queries.{XPath, LegalPath, queryNodes}
+use Rattle.meaning.specs.Translation as translation
+use Rattle.meaning.specs.Translation.{translated, stepCount}
+use Rattle.meaning.proofs.Bits.{mask-single}
+use Rattle.meaning.proofs.Counts.{translated-length}
+use Rattle.fields.specs.Read.{Read, got, refused}
+use Rattle.fields.specs.Outcomes.{outcomeOf, valueOr}
+use Rattle.fields.specs.Write.{byteOf, headerOf}
+use Rattle.graph.specs.declared.GraphRead.{GraphRead}
+use Rattle.graph.specs.Gra.{graphFile}
+use Rattle.graph.specs.Answers.{noGraph, graphRead}
+use Rattle.graph.proofs.File.{graph-read}
+use Rattle.query.specs.declared.QueryRead.{QueryRead}
+use Rattle.query.specs.Qry.{path, queryFile, pathBytes, queryBytes}
+use Rattle.query.specs.Answers.{queryRead}
+use Rattle.query.proofs.File.{query-read}
+use Rattle.query.proofs.Written.{path-written}
+use Rattle.program.specs.Rel.{stepsBytes, programBytes}
+use Rattle.writing.specs.Lent.{Leaves, accepted, turnedAway, over, stored, lent}
+use Rattle.writing.specs.Put.{Put}
+use Rattle.writing.proofs.Puts.{over-nothing, over-more, put-then, put-length}
+use Rattle.translator.specs.declared.steps.Place.{Place}
+use Rattle.translator.specs.Translate.{programOf, translatedQuery, translatedUnder, translation}
+use Rattle.translator.specs.Count.{stepsIn, Counted}
+use Rattle.translator.specs.Descent.{start, Due, Done}
+use Rattle.translator.specs.Ready.{Accepts, Ready}
+use Rattle.translator.proofs.Counting.{path-steps, path-short}
+use Rattle.translator.proofs.Checked.{file-length, translated-stored}
+
+-- What a reading was that came out so.
+turned : {A : Type 0} (e : Read A) {r : Refusal} → outcomeOf e ≡ Refused r → e ≡ refused r
+turned (got a at) h = cc
+turned (refused q) h = cc
+
+held : {A : Type 0} (none : A) (e : Read A) → outcomeOf e ≡ Accepted → (n : ℕ) × (e ≡ got (valueOr none e) n)
+held none (got a at) h = (at, refl)
+held none (refused r) h = (0, cc)
+
+module _ (gra qry out : List ℕ) {x : GraphRead} (p : x ≡ graphRead (graphFile gra 0)) where
+  pub graph-away : {r : Refusal} {a : Answer} → x .outcome ≡ Refused r → a ≡ turnedAway r → Leaves (translation gra qry out) a out
+  unfolding translation lent
+  graph-away h e = rw (e, turned (graphFile gra 0) (rw p at h))
+
+  graph-held : x .outcome ≡ Accepted → (n : ℕ) × (graphFile gra 0 ≡ got (x .graph) n)
+  graph-held h = rw p (held noGraph (graphFile gra 0) (rw p at h))
+
+  pub graph-under : {a : Answer} {new : List ℕ} → x .outcome ≡ Accepted → Leaves (translatedUnder (x .graph) qry out) a new → Leaves (translation gra qry out) a new
+  unfolding translation translatedUnder lent
+  graph-under h e = rw (graph-held h .1) e
+
+pub graph-legal : (gra : List ℕ) {x : GraphRead} → ((i : ℕ) → Fits w8 (getD gra i 0)) → x ≡ graphRead (graphFile gra 0) → x .outcome ≡ Accepted → LegalGraph (x .graph)
+graph-legal gra {x} bytes p h = graph-read gra (λ i. bytes i .fits) (x .graph) _ (graph-held gra [] [] p h .1) .0
+
+query-out : (e : Read (XPath × ℕ)) → queryRead e .outcome ≡ outcomeOf e
+query-out (got p at) = refl
+query-out (refused r) = refl
+
+module _ (g : Graph) (qry : List ℕ) {x : QueryRead} (p : x ≡ queryRead (queryFile (g .k) qry 0)) where
+  came-out : outcomeOf (queryFile (g .k) qry 0) ≡ x .outcome
+  came-out = sym (ap (λ y. y .outcome) p ∙ query-out (queryFile (g .k) qry 0))
+
+  pub query-away : (out : List ℕ) {r : Refusal} {a : Answer} → x .outcome ≡ Refused r → a ≡ turnedAway r → Leaves (translatedUnder g qry out) a out
+  unfolding translatedUnder translatedQuery lent
+  query-away out h e = rw (e, turned (queryFile (g .k) qry 0) (came-out ∙ h))
+
+  pub query-accepted : LegalGraph g → x .outcome ≡ Accepted → Accepts g qry
+  query-accepted legal h =
+      let (n, e) = held (XPath.self, 0) (queryFile (g .k) qry 0) (came-out ∙ h) in
+      record { graph = legal; query = _; left = _; end = n; reads = e }
+
+-- An accepted query.
+module _ {g : Graph} {s : List ℕ} (A : Accepts g s) (bytes : (i : ℕ) → Fits w8 (getD s i 0)) where
+  legal-query : LegalPath (g .k) (A .query) × (queryNodes (A .query) + A .left ≡ queryLimit) × (s ≡ queryBytes (A .query))
+  legal-query = query-read (g .k) (λ i. bytes i .fits) (A .reads)
+
+  count-is : stepsIn 0 (drop 5 s) ≡ stepCount (A .query)
+  unfolding queryBytes stepCount stepsIn
+  count-is =
+      let p = A .query in
+      ap (λ l. stepsIn 0 (drop 5 l)) (legal-query .2) ∙ ap (stepsIn 0) (sym (append-nil (pathBytes p))) ∙ path-steps p [] ∙ omega arith
+
+  module _ {n : ℕ} (c : Counted s n) {out : List ℕ} {a : Answer} where
+    pub too-many : stepLimit < n → a ≡ turnedAway (record { reason = Steps }) → Leaves (translatedUnder g s out) a out
+    unfolding translatedUnder translatedQuery programOf lent
+    too-many l e = rw (e, A .reads, lt-leb (stepCount (A .query)) stepLimit (omega (arith, c .most, count-is)))
+
+    pub no-room : n ≤ stepLimit → length out < 6 + 3 * n → a ≡ turnedAway (record { reason = Room }) → Leaves (translatedUnder g s out) a out
+    unfolding translatedUnder translatedQuery programOf lent stored
+    no-room l short e =
+        let p = A .query in
+        let few : stepCount p ≤ stepLimit = omega (arith, c .all l, count-is) in
+        let long : length out < length (programBytes (translated g p)) = omega (arith, c .all l, count-is, file-length g p) in
+        rw (e, A .reads, le-leb (stepCount p) stepLimit few, lt-leb (length (programBytes (translated g p))) (length out) long)
+
+  pub ready : {n m : ℕ} → Counted s n → n ≤ stepLimit → 6 + 3 * n ≤ m → Ready g s n m
+  ready c l f = record { accepted = A; count = c .all l ∙ count-is; few = l; fits = f }
+
+module _ {g : Graph} {s old x y : List ℕ} {n i j : ℕ} (R : Ready g s n (length old)) (bytes : (i : ℕ) → Fits w8 (getD s i 0))
+    (p : Put 0 (headerOf 0x52 0x45 0x4C) old x i) (q : Put i (byteOf n) x y j) where
+  headed : Put 0 (headerOf 0x52 0x45 0x4C ++ byteOf n) old y j
+  headed = put-then (omega arith) p q
+
+  as-long : length y ≡ length old
+  as-long = put-length (omega (arith, R .fits)) headed
+
+  pub start-due : {m : ℕ} → m ≡ length y → Due path g s m start
+  unfolding stepCount queryNodes queryBytes
+  start-due l =
+      let A = R .accepted in
+      let (legal, nodes, same) = legal-query A bytes in
+      let behind : drop 5 s ≡ pathBytes (A .query) ++ [] = ap (drop 5) same ∙ sym (append-nil (pathBytes (A .query))) in
+      record {
+        graph = A .graph;
+        bytes = λ i. bytes i .fits;
+        short = omega (arith, ap length same, path-short (A .query));
+        kinds = omega arith;
+        tree = A .query;
+        next = 5 + length (pathBytes (A .query));
+        stands = record {
+          depth = queryLimit;
+          allowed = queryLimit;
+          left = A .left;
+          reads = path-written (g .k) (A .query) legal .reads-back queryLimit queryLimit (A .left) (omega arith) (omega arith) .reads s 5 [] behind;
+        };
+        enough = record { few = omega (arith, R .count, R .few); fits = omega (arith, R .count, R .fits, as-long) };
+      }
+
+  module _ {new : List ℕ} {to : Place} (D : Done path g s y new start to) where
+    -- the steps stand behind the header and their number
+    file-there : new ≡ over 0 (programBytes (translated g (R .accepted .query))) old
+    unfolding start-due translated stepsBytes programBytes
+    file-there =
+        let os = translated g (R .accepted .query) in
+        let H = D .done (start-due refl) .writes .writes y [] (record { header = omega (arith, R .fits, as-long); there = sym (over-nothing 6 y); count = refl }) in
+        let steps : new ≡ over 6 (stepsBytes os) y = H .there ∙ ap (λ C. over 6 (stepsBytes (translation.path g C (R .accepted .query) [])) y) (sym (mask-single kinds document (omega arith))) in
+        let count : n ≡ length os = R .count ∙ sym (translated-length g (R .accepted .query)) in
+        steps ∙ ap (λ l. over 6 (stepsBytes os) l) (headed .there) ∙ over-more 0 (headerOf 0x52 0x45 0x4C ++ byteOf n) (stepsBytes os) old (omega arith)
+        ∙ ap (λ k. over 0 ((headerOf 0x52 0x45 0x4C ++ byteOf k) ++ stepsBytes os) old) count
+
+    pub written-all : {a : Answer} → a ≡ accepted (6 + 3 * n) → Leaves (translatedUnder g s old) a new
+    written-all e =
+        let A = R .accepted in
+        translated-stored g s old (A .reads) (omega (arith, R .count, R .few)) (omega (arith, R .count, R .fits)) ∙ rw (e, file-there, R .count)
+
+pub ruleset answers = (graph-away, graph-under, graph-legal, query-away, query-accepted, too-many, no-room, ready, start-due, written-all, needs)

@@ -1,0 +1,159 @@
+-- Counting the steps over the bytes of a query: one law for each turn and return, and what is counted.
+use Prim.Native.Nat.{ℕ, zero, suc, _+_, _*_, _<_, _≤_}
+use mathlib.Core.Path.{_≡_, refl, sym, ap, _∙_}
+use mathlib.Core.Bool.{Bool, true, false}
+use mathlib.Core.List.{List, [], _∷_, _++_, append-assoc}
+use native.Mathlib.Omega.{arith}
+use lib.Dec.{eqb}
+use lib.ListN.{length, getD, drop, length-append, drop-of-length-le}
+use lib.Seq.{drop-nil, drop-cons, drop-drop}
+use mir.Syntax.{w64}
+use mir.Val.{Fits}
+use borrow.Author.Needs.{needs}
+use borrow.Author.Tests.{ne-eqb}
+use Rattle.meaning.specs.Limits.{stepLimit}
+use Rattle.meaning.specs.Queries.{XPath, Qualifier, self, child, anyChild, slash, slashes, union, filter, reached, textIs, isNot, both, either, pathCount, qualifierCount}
+use Rattle.fields.specs.Read.{pick}
+use Rattle.query.specs.Qry.{pathBytes, qualifierBytes}
+use Rattle.translator.specs.Count.{fieldsOf, ownSteps, stepsIn, Counted}
+
+-- A code's fields and steps.
+module _ (c : ℕ) where
+  pub fields-type : c ≡ 0x02 → 1 ≡ fieldsOf c
+  fields-type e = rw e
+
+  pub fields-text : c ≡ 0x12 → 2 ≡ fieldsOf c
+  fields-text e = rw e
+
+  pub fields-none : (c ≡ 0x02 → ⊥) → (c ≡ 0x12 → ⊥) → 0 ≡ fieldsOf c
+  fields-none n o = simp (ne-eqb c _ n, ne-eqb c _ o)
+
+  pub own-slashes : c ≡ 0x05 → 6 ≡ ownSteps c
+  own-slashes e = rw e
+
+  pub own-not : c ≡ 0x13 → 2 ≡ ownSteps c
+  own-not e = rw e
+
+  pub own-one : (c ≡ 0x05 → ⊥) → (c ≡ 0x13 → ⊥) → 1 ≡ ownSteps c
+  own-one n o = simp (ne-eqb c _ n, ne-eqb c _ o)
+
+  fields-few : fieldsOf c ≤ 2
+  fields-few = go (eqb c 0x02) (eqb c 0x12)
+    where
+      go : (a b : Bool) → pick a 1 (pick b 2 0) ≤ 2
+      go true b = omega arith
+      go false true = omega arith
+      go false false = omega arith
+
+  own-few : (1 ≤ ownSteps c) × (ownSteps c ≤ 6)
+  own-few = go (eqb c 0x05) (eqb c 0x13)
+    where
+      go : (a b : Bool) → (1 ≤ pick a 6 (pick b 2 1)) × (pick a 6 (pick b 2 1) ≤ 6)
+      go true b = omega arith
+      go false true = omega arith
+      go false false = omega arith
+
+skipped : (n : ℕ) (s : List ℕ) → stepsIn n s ≡ stepsIn 0 (drop n s)
+unfolding stepsIn
+skipped n [] = ap (stepsIn 0) (sym (drop-nil n))
+skipped zero (c ∷ s) = refl
+skipped (suc n) (c ∷ s) = skipped n s
+
+-- what is counted before a place, and what is there from it on
+pub record Upto (s : List ℕ) (at steps : ℕ) : Type 0 where
+  pub sum : steps + stepsIn 0 (drop at s) ≡ stepsIn 0 (drop 5 s)
+  pub near : at ≤ 5 + 3 * steps
+  pub few : steps ≤ stepLimit + 6
+
+pub upto-none : (s : List ℕ) → Upto s 5 0
+upto-none s = record { sum = omega arith; near = omega arith; few = omega arith }
+
+module _ {s : List ℕ} {at steps : ℕ} (u : Upto s at steps) where
+  pub upto-many : stepLimit < steps → Counted s steps
+  upto-many l = record { most = omega (arith, u .sum); all = λ m. absurd (omega arith) }
+
+  pub upto-all : length s ≤ at → Counted s steps
+  unfolding stepsIn
+  upto-all l =
+      let e : stepsIn 0 (drop at s) ≡ 0 = ap (stepsIn 0) (drop-of-length-le s l) in
+      record { most = omega (arith, u .sum); all = λ m. omega (arith, u .sum) }
+
+  module _ {f : ℕ} (e : f ≡ fieldsOf (getD s at 0)) where
+    pub at-fits : steps ≤ stepLimit → Fits w64 (at + (1 + f))
+    at-fits l = record { fits = omega (arith, u .near, fields-few (getD s at 0)) }
+
+    pub upto-more : {w : ℕ} → at < length s → steps ≤ stepLimit → w ≡ ownSteps (getD s at 0) → Upto s (at + (1 + f)) (steps + w)
+    unfolding stepsIn
+    upto-more {w} i l o =
+        let c = getD s at 0 in
+        let here : stepsIn 0 (drop at s) ≡ ownSteps c + stepsIn (fieldsOf c) (drop (suc at) s) = ap (stepsIn 0) (drop-cons s at 0 i) in
+        let next : suc at + fieldsOf c ≡ at + (1 + f) = omega arith in
+        let there : stepsIn (fieldsOf c) (drop (suc at) s) ≡ stepsIn 0 (drop (at + (1 + f)) s) =
+        skipped (fieldsOf c) (drop (suc at) s) ∙ ap (stepsIn 0) (drop-drop (fieldsOf c) (suc at) s ∙ ap (λ n. drop n s) next) in
+        record { sum = omega (arith, u .sum); near = omega (arith, u .near, fields-few c, own-few c); few = omega (arith, own-few c) }
+
+  pub steps-fit : {w : ℕ} → w ≡ ownSteps (getD s at 0) → Fits w64 (steps + w)
+  steps-fit o = record { fits = omega (arith, u .few, own-few (getD s at 0)) }
+
+pub fields-fit : {f : ℕ} (c : ℕ) → f ≡ fieldsOf c → Fits w64 (1 + f)
+fields-fit c e = record { fits = omega (arith, fields-few c) }
+
+pub ruleset counts = (
+  fields-type,
+  fields-text,
+  fields-none,
+  own-slashes,
+  own-not,
+  own-one,
+  upto-none,
+  upto-many,
+  upto-all,
+  at-fits,
+  upto-more,
+  steps-fit,
+  fields-fit,
+  needs,
+)
+
+-- The bytes of a path or a qualifier hold its steps.
+two-parts : (m n : ℕ) (a b s : List ℕ) → stepsIn 0 (a ++ (b ++ s)) ≡ m + stepsIn 0 (b ++ s) → stepsIn 0 (b ++ s) ≡ n + stepsIn 0 s → stepsIn 0 ((a ++ b) ++ s) ≡ m + n + stepsIn 0 s
+two-parts m n a b s p q = ap (stepsIn 0) (append-assoc a b s) ∙ omega arith
+
+mutual
+  unfolding stepsIn pathBytes qualifierBytes pathCount qualifierCount
+
+  pub path-steps : (p : XPath) (s : List ℕ) → stepsIn 0 (pathBytes p ++ s) ≡ pathCount 5 1 p + stepsIn 0 s
+  path-steps self s = refl
+  path-steps (child t) s = refl
+  path-steps anyChild s = refl
+  path-steps (slash p q) s = omega (arith, two-parts (pathCount 5 1 p) (pathCount 5 1 q) (pathBytes p) (pathBytes q) s (path-steps p _) (path-steps q s))
+  path-steps (slashes p q) s = omega (arith, two-parts (pathCount 5 1 p) (pathCount 5 1 q) (pathBytes p) (pathBytes q) s (path-steps p _) (path-steps q s))
+  path-steps (union p q) s = omega (arith, two-parts (pathCount 5 1 p) (pathCount 5 1 q) (pathBytes p) (pathBytes q) s (path-steps p _) (path-steps q s))
+  path-steps (filter p q) s = omega (arith, two-parts (pathCount 5 1 p) (qualifierCount 5 1 q) (pathBytes p) (qualifierBytes q) s (path-steps p _) (qualifier-steps q s))
+
+  qualifier-steps : (q : Qualifier) (s : List ℕ) → stepsIn 0 (qualifierBytes q ++ s) ≡ qualifierCount 5 1 q + stepsIn 0 s
+  qualifier-steps (reached p) s = omega (arith, path-steps p s)
+  qualifier-steps (textIs c) s = refl
+  qualifier-steps (isNot q) s = omega (arith, qualifier-steps q s)
+  qualifier-steps (both q r) s = omega (arith, two-parts (qualifierCount 5 1 q) (qualifierCount 5 1 r) (qualifierBytes q) (qualifierBytes r) s (qualifier-steps q _) (qualifier-steps r s))
+  qualifier-steps (either q r) s = omega (arith, two-parts (qualifierCount 5 1 q) (qualifierCount 5 1 r) (qualifierBytes q) (qualifierBytes r) s (qualifier-steps q _) (qualifier-steps r s))
+
+-- A node has three bytes at most.
+mutual
+  unfolding pathBytes qualifierBytes pathCount qualifierCount
+
+  pub path-short : (p : XPath) → length (pathBytes p) ≤ 3 * pathCount 0 0 p
+  path-short self = omega arith
+  path-short (child t) = omega arith
+  path-short anyChild = omega arith
+  path-short (slash p q) = omega (arith, length-append (pathBytes p) (pathBytes q), path-short p, path-short q)
+  path-short (slashes p q) = omega (arith, length-append (pathBytes p) (pathBytes q), path-short p, path-short q)
+  path-short (union p q) = omega (arith, length-append (pathBytes p) (pathBytes q), path-short p, path-short q)
+  path-short (filter p q) = omega (arith, length-append (pathBytes p) (qualifierBytes q), path-short p, qualifier-short q)
+
+  qualifier-short : (q : Qualifier) → length (qualifierBytes q) ≤ 3 * qualifierCount 0 0 q
+  qualifier-short (reached p) = omega (arith, path-short p)
+  qualifier-short (textIs c) = omega arith
+  qualifier-short (isNot q) = omega (arith, qualifier-short q)
+  qualifier-short (both q r) = omega (arith, length-append (qualifierBytes q) (qualifierBytes r), qualifier-short q, qualifier-short r)
+  qualifier-short (either q r) = omega (arith, length-append (qualifierBytes q) (qualifierBytes r), qualifier-short q, qualifier-short r)

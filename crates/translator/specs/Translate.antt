@@ -1,0 +1,29 @@
+-- The program of a query: judged the graph, the query, 11 above 24 steps, then the room.
+use Prim.Native.Nat.{ℕ}
+use mathlib.Core.List.{List}
+use lib.Dec.{leb}
+use Rattle.meaning.specs.declared.Graph.{Graph}
+use Rattle.meaning.specs.declared.Operation.{Operation}
+use Rattle.meaning.specs.declared.Reason.the-variants.{Steps}
+use Rattle.meaning.specs.Limits.{stepLimit}
+use Rattle.meaning.specs.Queries.{XPath}
+use Rattle.meaning.specs.Translation.{translated, stepCount}
+use Rattle.fields.specs.Read.{Read, got, refused, bind, pick}
+use Rattle.graph.specs.Gra.{graphFile}
+use Rattle.query.specs.Qry.{queryFile}
+use Rattle.program.specs.Rel.{programBytes}
+use Rattle.writing.specs.Lent.{Lent, lent}
+
+-- a query's program, where it has at most 24 steps
+unfoldable pub programOf : Graph → XPath → ℕ → Read (List Operation)
+programOf g p at = pick (leb (stepCount p) stepLimit) (got (translated g p) at) (refused (record { reason = Steps }))
+
+-- the query that the bytes hold, as a program under a graph
+unfoldable pub translatedQuery : Graph → List ℕ → Read (List Operation)
+translatedQuery g qry = bind (queryFile (g .k) qry 0) λ p at. programOf g (p .0) at
+
+unfoldable pub translatedUnder : Graph → List ℕ → List ℕ → Lent
+translatedUnder g qry out = lent (bind (translatedQuery g qry) λ os at. got (programBytes os) at) out
+
+unfoldable pub translation : List ℕ → List ℕ → List ℕ → Lent
+translation gra qry out = lent (bind (graphFile gra 0) λ g _. bind (translatedQuery g qry) λ os at. got (programBytes os) at) out
