@@ -38,6 +38,7 @@ module _ (gra : List ℕ) (g : Graph) (graph : OfGraph gra g) where
   demand-2 =
       record {
         runs = runs;
+        rows = λ {edg} {rel} tables program room. run-keeps-its-promises gra edg rel (graph .accepts) (tables .accepts) (program .accepts) room .rows;
         selects = select-names graph;
         translates = λ b query room. translate-answers graph query b room;
         documents-return = λ {tre} {es} out back document room room-back.

@@ -11,10 +11,10 @@ use Rattle.meaning.specs.declared.Graph.{Graph}
 use Rattle.meaning.specs.declared.Operation.{Operation}
 use Rattle.meaning.specs.declared.Reason.the-variants.{Steps}
 use Rattle.meaning.specs.Limits.{document, elementLimit, stepLimit}
-use Rattle.meaning.specs.Relations.{Relation}
+use Rattle.meaning.specs.Relations.{Relation, at}
 use Rattle.meaning.specs.Documents.{View, view, node}
 use Rattle.meaning.specs.Queries.{XPath, reaches}
-use Rattle.meaning.specs.Operations.{LegalProgram, last}
+use Rattle.meaning.specs.Operations.{LegalProgram, last, run}
 use Rattle.meaning.specs.Translation.{translated, stepCount}
 use Rattle.fields.specs.Read.{got, pick}
 use Rattle.fields.specs.Write.{Bytes}
@@ -118,7 +118,11 @@ pub record Demand2 (gra : List ℕ) (g : Graph) (graph : OfGraph gra g) : Type 0
   pub runs : {tre qry : List ℕ} {es : List Element} {p : XPath} (a b out work : List ℕ) → OfDocument g tre es → OfQuery g qry p
       → tablesLength (g .k) (length es) ≤ length a → translation gra qry b .answer .number ≡ 0 → Roomy (view es) (translated g p) out work
       → Names (view es) p (runOf gra (fileIn (shredded gra tre a)) (fileIn (translation gra qry b)) out work)
-  -- and so does the one call
+  -- the rows of every step, ours or a client's, stand in the work area
+  pub rows : {edg rel : List ℕ} {es : List Element} {os : List Operation} {out work : List ℕ} → OfTables g edg es → OfProgram g rel os
+      → Roomy (view es) os out work → (s v w : ℕ) → s < length os → v < 128 → w < 128
+      → joined (runOf gra edg rel out work .work) s v w ≡ at (run (view es) os) s v w
+  -- and the one call names what the query selects
   pub selects : {edg qry : List ℕ} {es : List Element} {p : XPath} (out work : List ℕ) → OfTables g edg es → OfQuery g qry p
       → stepCount p ≤ stepLimit → Roomy (view es) (translated g p) out work → Names (view es) p (selectOf gra edg qry out work)
   -- given the room, the only accepted query not translated needs more than 24 steps

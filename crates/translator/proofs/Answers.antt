@@ -7,7 +7,7 @@ use lib.ListN.{length, getD, drop}
 use mir.Syntax.{w8}
 use mir.Val.{Fits}
 use borrow.Author.Needs.{needs}
-use borrow.Author.Tests.{le-leb, lt-leb}
+use borrow.Author.Tests.{lt-leb}
 use Rattle.meaning.specs.declared.Answer.{Answer}
 use Rattle.meaning.specs.declared.Graph.{Graph}
 use Rattle.meaning.specs.declared.Outcome.the-variants.{Accepted, Refused}
@@ -21,21 +21,23 @@ use Rattle.meaning.specs.Translation.{translated, stepCount}
 use Rattle.meaning.proofs.Bits.{mask-single}
 use Rattle.meaning.proofs.Counts.{translated-length}
 use Rattle.fields.specs.Read.{Read, got, refused}
-use Rattle.fields.specs.Outcomes.{outcomeOf, valueOr}
+use Rattle.fields.specs.Outcomes.{outcomeOf}
+use Rattle.fields.proofs.Outcomes.{turned, held}
 use Rattle.fields.specs.Write.{byteOf, headerOf}
 use Rattle.graph.specs.declared.GraphRead.{GraphRead}
 use Rattle.graph.specs.Gra.{graphFile}
-use Rattle.graph.specs.Answers.{noGraph, graphRead}
-use Rattle.graph.proofs.File.{graph-read}
+use Rattle.graph.specs.Answers.{graphRead}
+use Rattle.graph.proofs.Held.{graph-turned, graph-held, graph-legal}
 use Rattle.query.specs.declared.QueryRead.{QueryRead}
 use Rattle.query.specs.Qry.{path, queryFile, pathBytes, queryBytes}
 use Rattle.query.specs.Answers.{queryRead}
 use Rattle.query.proofs.File.{query-read}
 use Rattle.query.proofs.Written.{path-written}
 use Rattle.program.specs.Rel.{stepsBytes, programBytes}
-use Rattle.writing.specs.Lent.{Leaves, accepted, turnedAway, over, stored, lent}
+use Rattle.writing.specs.Lent.{Leaves, accepted, turnedAway, over, lent}
 use Rattle.writing.specs.Put.{Put}
 use Rattle.writing.proofs.Puts.{over-nothing, over-more, put-then, put-length}
+use Rattle.writing.proofs.Stored.{stored-none, stored-there}
 use Rattle.translator.specs.declared.steps.Place.{Place}
 use Rattle.translator.specs.Translate.{programOf, translatedQuery, translatedUnder, translation}
 use Rattle.translator.specs.Count.{stepsIn, Counted}
@@ -44,29 +46,14 @@ use Rattle.translator.specs.Ready.{Accepts, Ready}
 use Rattle.translator.proofs.Counting.{path-steps, path-short}
 use Rattle.translator.proofs.Checked.{file-length, translated-stored}
 
--- What a reading was that came out so.
-turned : {A : Type 0} (e : Read A) {r : Refusal} → outcomeOf e ≡ Refused r → e ≡ refused r
-turned (got a at) h = cc
-turned (refused q) h = cc
-
-held : {A : Type 0} (none : A) (e : Read A) → outcomeOf e ≡ Accepted → (n : ℕ) × (e ≡ got (valueOr none e) n)
-held none (got a at) h = (at, refl)
-held none (refused r) h = (0, cc)
-
 module _ (gra qry out : List ℕ) {x : GraphRead} (p : x ≡ graphRead (graphFile gra 0)) where
   pub graph-away : {r : Refusal} {a : Answer} → x .outcome ≡ Refused r → a ≡ turnedAway r → Leaves (translation gra qry out) a out
   unfolding translation lent
-  graph-away h e = rw (e, turned (graphFile gra 0) (rw p at h))
-
-  graph-held : x .outcome ≡ Accepted → (n : ℕ) × (graphFile gra 0 ≡ got (x .graph) n)
-  graph-held h = rw p (held noGraph (graphFile gra 0) (rw p at h))
+  graph-away h e = rw (e, graph-turned gra p h)
 
   pub graph-under : {a : Answer} {new : List ℕ} → x .outcome ≡ Accepted → Leaves (translatedUnder (x .graph) qry out) a new → Leaves (translation gra qry out) a new
   unfolding translation translatedUnder lent
-  graph-under h e = rw (graph-held h .1) e
-
-pub graph-legal : (gra : List ℕ) {x : GraphRead} → ((i : ℕ) → Fits w8 (getD gra i 0)) → x ≡ graphRead (graphFile gra 0) → x .outcome ≡ Accepted → LegalGraph (x .graph)
-graph-legal gra {x} bytes p h = graph-read gra (λ i. bytes i .fits) (x .graph) _ (graph-held gra [] [] p h .1) .0
+  graph-under h e = rw (graph-held gra p h .1) e
 
 query-out : (e : Read (XPath × ℕ)) → queryRead e .outcome ≡ outcomeOf e
 query-out (got p at) = refl
@@ -102,12 +89,10 @@ module _ {g : Graph} {s : List ℕ} (A : Accepts g s) (bytes : (i : ℕ) → Fit
     too-many l e = rw (e, A .reads, lt-leb (stepCount (A .query)) stepLimit (omega (arith, c .most, count-is)))
 
     pub no-room : n ≤ stepLimit → length out < 6 + 3 * n → a ≡ turnedAway (record { reason = Room }) → Leaves (translatedUnder g s out) a out
-    unfolding translatedUnder translatedQuery programOf lent stored
     no-room l short e =
         let p = A .query in
-        let few : stepCount p ≤ stepLimit = omega (arith, c .all l, count-is) in
-        let long : length out < length (programBytes (translated g p)) = omega (arith, c .all l, count-is, file-length g p) in
-        rw (e, A .reads, le-leb (stepCount p) stepLimit few, lt-leb (length (programBytes (translated g p))) (length out) long)
+        translated-stored g s out (A .reads) (omega (arith, c .all l, count-is))
+        ∙ stored-none (programBytes (translated g p)) out (omega (arith, c .all l, count-is, file-length g p)) ∙ rw e
 
   pub ready : {n m : ℕ} → Counted s n → n ≤ stepLimit → 6 + 3 * n ≤ m → Ready g s n m
   ready c l f = record { accepted = A; count = c .all l ∙ count-is; few = l; fits = f }
@@ -156,7 +141,9 @@ module _ {g : Graph} {s old x y : List ℕ} {n i j : ℕ} (R : Ready g s n (leng
 
     pub written-all : {a : Answer} → a ≡ accepted (6 + 3 * n) → Leaves (translatedUnder g s old) a new
     written-all e =
-        let A = R .accepted in
-        translated-stored g s old (A .reads) (omega (arith, R .count, R .few)) (omega (arith, R .count, R .fits)) ∙ rw (e, file-there, R .count)
+        let p = R .accepted .query in
+        let long : 6 + 3 * n ≡ length (programBytes (translated g p)) = omega (arith, R .count, file-length g p) in
+        translated-stored g s old (R .accepted .reads) (omega (arith, R .count, R .few))
+        ∙ stored-there (programBytes (translated g p)) old (omega (arith, long, R .fits)) ∙ rw (e, long, file-there)
 
 pub ruleset answers = (graph-away, graph-under, graph-legal, query-away, query-accepted, too-many, no-room, ready, start-due, written-all, needs)

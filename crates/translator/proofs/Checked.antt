@@ -6,7 +6,6 @@ use native.Mathlib.Omega.{arith}
 use lib.ListN.{length}
 use borrow.Author.Tests.{le-leb}
 use Rattle.meaning.specs.declared.Graph.{Graph}
-use Rattle.meaning.specs.declared.Operation.{Operation}
 use Rattle.meaning.specs.Limits.{stepLimit}
 use Rattle.meaning.specs.Graphs.{LegalGraph}
 use Rattle.meaning.specs.Queries.{XPath, LegalPath}
@@ -21,26 +20,22 @@ use Rattle.query.specs.Qry.{queryFile}
 use Rattle.query.proofs.File.{query-read}
 use Rattle.program.specs.Rel.{programFile, programBytes}
 use Rattle.program.proofs.File.{program-written}
-use Rattle.writing.specs.Lent.{accepted, over, stored, lent}
+use Rattle.program.proofs.Encoded.{program-length}
+use Rattle.writing.specs.Lent.{stored, lent}
 use Rattle.translator.specs.Translate.{programOf, translatedQuery, translatedUnder}
-use Rattle.translator.proofs.Writes.{steps-length}
-
--- the file of a program: six bytes, and three a step
-pub program-length : (os : List Operation) → length (programBytes os) ≡ 6 + 3 * length os
-unfolding programBytes
-program-length os = omega (arith, steps-length os)
 
 pub file-length : (g : Graph) (p : XPath) → length (programBytes (translated g p)) ≡ 6 + 3 * stepCount p
 file-length g p = omega (arith, program-length (translated g p), translated-length g p)
 
 pub record Checked (g : Graph) (p : XPath) : Type 0 where
   pub legal : LegalProgram stepLimit (g .k) (translated g p)
-  pub reads-back : programFile (g .k) (programBytes (translated g p)) 0 ≡ got (translated g p) (6 + 3 * stepCount p)
+  pub reads-back : programFile (g .k) (programBytes (translated g p)) 0 ≡ got (translated g p) (length (programBytes (translated g p)))
+  pub long : length (programBytes (translated g p)) ≡ 6 + 3 * stepCount p
 
 pub translated-checked : (g : Graph) (p : XPath) → LegalGraph g → LegalPath (g .k) p → stepCount p ≤ stepLimit → Checked g p
 translated-checked g p graph query few =
     let legal = translated-legal stepLimit g graph p query few in
-    record { legal = legal; reads-back = rw (file-length g p) at (program-written legal) }
+    record { legal = legal; reads-back = program-written legal; long = file-length g p }
 
 -- the same of any two files that were accepted
 pub translation-checked : (gra qry : List ℕ) {g : Graph} {p : XPath} {left m n : ℕ} → Bytes gra → Bytes qry → graphFile gra 0 ≡ got g m → queryFile (g .k) qry 0 ≡ got (p, left) n
@@ -48,9 +43,8 @@ pub translation-checked : (gra qry : List ℕ) {g : Graph} {p : XPath} {left m n
 translation-checked gra qry {g} {p} {m = m} gra-bytes qry-bytes read-graph read-query few =
     translated-checked g p (graph-read gra gra-bytes g m read-graph .0) (query-read (g .k) qry-bytes read-query .0) few
 
--- where there is room, the file stands in the buffer, and its length is the answer
-pub translated-stored : (g : Graph) (qry out : List ℕ) {p : XPath} {left n : ℕ} → queryFile (g .k) qry 0 ≡ got (p, left) n → stepCount p ≤ stepLimit → 6 + 3 * stepCount p ≤ length out
-    → translatedUnder g qry out ≡ record { answer = accepted (6 + 3 * stepCount p); bytes = over 0 (programBytes (translated g p)) out }
-unfolding translatedUnder translatedQuery programOf lent stored
-translated-stored g qry out {p} e few room =
-    rw (e, le-leb (stepCount p) stepLimit few, le-leb (length (programBytes (translated g p))) (length out) (omega (arith, file-length g p)), file-length g p)
+-- the buffer as it is left: with the file in it, where there is room
+pub translated-stored : (g : Graph) (qry out : List ℕ) {p : XPath} {left n : ℕ} → queryFile (g .k) qry 0 ≡ got (p, left) n → stepCount p ≤ stepLimit
+    → translatedUnder g qry out ≡ stored (programBytes (translated g p)) out
+unfolding translatedUnder translatedQuery programOf lent
+translated-stored g qry out {p} e few = rw (e, le-leb (stepCount p) stepLimit few)

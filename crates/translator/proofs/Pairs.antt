@@ -278,7 +278,7 @@ module _ {C : ℕ} {g : Graph} {s : List ℕ} {left under : Place} (i : under �
   pub beside-due : {n : ℕ} → Second path C g s n left → Due path g s n under
   beside-due d = rw i (d .due)
 
-  module _ {old mid : List ℕ} {right third : Place} (R : Done path g s old mid under right) (j : third ≡ record { kinds = bitOr (left .kinds) (right .kinds); at = right .at; steps = right .steps }) where
+  module _ {old mid : List ℕ} {right third : Place} {K : ℕ} (R : Done path g s old mid under right) (j : third ≡ record { kinds = K; at = right .at; steps = right .steps }) where
     beside-goes : (d : Second path C g s (length old) left) → let q = d .due .tree in
         Goes (translation.path g C q) (pathCount 5 1 q) (out g C q) (d .due .next) old mid (record { kinds = C; at = left .at; steps = left .steps }) right
     beside-goes d = let D = rw i at R in D .done (d .due)
@@ -291,11 +291,11 @@ module _ {C : ℕ} {g : Graph} {s : List ℕ} {left under : Place} (i : under �
           second = rw j (record { some = omega (arith, G .steps, d .behind .some); enough = room-less (d .behind .enough) (omega (arith, G .steps)) (r ∙ G .same) });
         }
 
-    pub beside-done : {new : List ℕ} {to : Place} → Goes (step (Union (left .steps - 1) (third .steps - 1))) 1 (third .kinds) (third .at) mid new third to → Beside C g s old new left to
-    beside-done q = record {
+    pub beside-done : {new : List ℕ} {to : Place} → K ≡ bitOr (left .kinds) (right .kinds) → Goes (step (Union (left .steps - 1) (third .steps - 1))) 1 (third .kinds) (third .at) mid new third to → Beside C g s old new left to
+    beside-done k q = record {
       done = λ d.
           let G = beside-goes d in
           goes-as refl refl
-          (ap (λ p. p .kinds) j ∙ ap (bitOr (left .kinds)) (G .kinds) ∙ together-or (left .kinds) _ (d .kinds) (out-small g C (d .due .kinds) (d .due .tree))) refl
+          (ap (λ p. p .kinds) j ∙ k ∙ ap (bitOr (left .kinds)) (G .kinds) ∙ together-or (left .kinds) _ (d .kinds) (out-small g C (d .due .kinds) (d .due .tree))) refl
           (half-goes left refl G Union (ap (λ p. p .steps) j) (ap (λ p. p .at) j) q);
     }

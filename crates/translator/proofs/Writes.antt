@@ -8,13 +8,14 @@ use lib.ListN.{length, length-append}
 use borrow.Author.Needs.{needs}
 use Rattle.meaning.specs.declared.Graph.{Graph}
 use Rattle.meaning.specs.declared.Operation.{Operation}
-use Rattle.meaning.specs.declared.Operation.the-variants.{Table, Itself, Text, Join, Union, Closure, Has, Diff, Both}
+use Rattle.meaning.specs.declared.Operation.the-variants.{Table, Itself, Join, Union, Closure, Has, Diff, Both}
 use Rattle.meaning.specs.Graphs.{reachable}
 use Rattle.meaning.specs.Operations.{last}
 use Rattle.meaning.specs.Translation.{image, orReachable, Adds, step, then, thenBoth, descend}
 use Rattle.fields.specs.Write.{byteOf}
 use Rattle.program.specs.declared.StepBytes.{StepBytes}
-use Rattle.program.specs.Rel.{coded, stepBytes, stepsBytes}
+use Rattle.program.specs.Rel.{stepBytes, stepsBytes, programBytes}
+use Rattle.program.proofs.Encoded.{program-length}
 use Rattle.writing.specs.Lent.{over}
 use Rattle.writing.specs.Put.{Put}
 use Rattle.writing.proofs.Puts.{over-more, put-then, put-length}
@@ -22,22 +23,9 @@ use Rattle.translator.specs.declared.steps.Place.{Place}
 use Rattle.translator.specs.Descent.{onto, Holds, Writes, Goes, Room, Behind, Masked, Pair, Below}
 use Rattle.translator.proofs.KindMasks.{reachable-small, together-or}
 
-three : (o : Operation) → length (stepBytes o) ≡ 3
-unfolding coded
-three (Table m) = refl
-three Itself = refl
-three (Text c) = refl
-three (Join a b) = refl
-three (Union a b) = refl
-three (Closure a) = refl
-three (Has a) = refl
-three (Diff a b) = refl
-three (Both a b) = refl
-
-pub steps-length : (os : List Operation) → length (stepsBytes os) ≡ 3 * length os
-unfolding stepsBytes
-steps-length [] = refl
-steps-length (o ∷ os) = length-append (stepBytes o) (stepsBytes os) ∙ omega (arith, three o, steps-length os)
+steps-length : (os : List Operation) → length (stepsBytes os) ≡ 3 * length os
+unfolding programBytes
+steps-length os = omega (arith, program-length os)
 
 steps-more : (os : List Operation) (o : Operation) → stepsBytes (os ++ (o ∷ [])) ≡ stepsBytes os ++ stepBytes o
 unfolding stepsBytes

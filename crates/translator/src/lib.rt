@@ -41,12 +41,12 @@ fn judged(g: Graph, qry: &[u8], out: &mut [u8]) -> Answer
             reason: Reason::Steps,
         });
     }
-    if out.len() < 6 + 3 * steps {
-        return writing::turned_away(Refusal {
-            reason: Reason::Room,
-        });
+    if 6 + 3 * steps <= out.len() {
+        return written(g, qry, steps as u8, out);
     }
-    written(g, qry, steps as u8, out)
+    writing::turned_away(Refusal {
+        reason: Reason::Room,
+    })
 }
 
 // Translates under a graph that was read before.

@@ -59,10 +59,11 @@ pub(crate) fn add(from: Place, operation: Operation, out: &mut [u8]) -> Place
     let x = writing::byte(out, 6 + 3 * wide(from.steps), bytes.0);
     let y = writing::byte(out, x, bytes.1);
     writing::byte(out, y, bytes.2);
+    let steps = from.steps + 1;
     Place {
         kinds: from.kinds,
         at: from.at,
-        steps: from.steps + 1,
+        steps,
     }
 }
 

@@ -18,12 +18,6 @@ mul-if2 c = search answers
 add-if2 : tie.Need-add-if2
 add-if2 c = search answers
 
-turned-away-requires-2 : tie.Need-turned-away-requires-2
-turned-away-requires-2 c κs = search answers
-
-returns-2 : tie.Need-returns-2
-returns-2 c = search answers
-
 cast-written : tie.Need-cast-written
 cast-written c = search answers
 
@@ -32,6 +26,12 @@ written-requires c κs = search answers
 
 same-length : tie.Need-same-length
 same-length c = search answers
+
+returns-2 : tie.Need-returns-2
+returns-2 c = search answers
+
+turned-away-requires-2 : tie.Need-turned-away-requires-2
+turned-away-requires-2 c κs = search answers
 
 returns-3 : tie.Need-returns-3
 returns-3 c = search answers
@@ -45,9 +45,9 @@ judged-spec =
     returns
     mul-if2
     add-if2
-    turned-away-requires-2
-    returns-2
     cast-written
     written-requires
     same-length
+    returns-2
+    turned-away-requires-2
     returns-3)

@@ -24,8 +24,8 @@ byte-requires-2 c κs = search writers
 byte-requires-3 : tie.Need-byte-requires-3
 byte-requires-3 c κs = search writers
 
-add-t16 : tie.Need-add-t16
-add-t16 c = search writers
+add-steps : tie.Need-add-steps
+add-steps c = search writers
 
 same-length : tie.Need-same-length
 same-length c = search writers
@@ -44,6 +44,6 @@ add-spec =
     byte-requires
     byte-requires-2
     byte-requires-3
-    add-t16
+    add-steps
     same-length
     returns)
