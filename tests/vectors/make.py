@@ -111,8 +111,9 @@ def stated(case, known):
     accepted = case.answer.split()[0] == "0"
     yield re.escape(f"{case.name} {case.answer}")
     if call == "check":
-        last = known[case.files[1]][5] - 1 if accepted else ""
-        yield rf"pairs( (?!{last}:)\S+)*" + "".join(" " + pair for pair in case.written.split()) if accepted else "pairs"
+        last = known[case.files[1]][5] - 1
+        earlier = rf"( (?!{last}:)\S+)*" if accepted else ""
+        yield "pairs" + earlier + "".join(" " + pair for pair in case.written.split())
         return
     filled = PATTERN[: case.rooms[0]]
     start = written(case.written, known)
