@@ -11,15 +11,13 @@ use Rattle.meaning.specs.declared.Graph.{Graph}
 use Rattle.meaning.specs.declared.Reason.the-variants.{Steps, Room}
 use Rattle.meaning.specs.Limits.{stepLimit}
 use Rattle.meaning.specs.Queries.{XPath}
-use Rattle.meaning.specs.Operations.{LegalProgram}
 use Rattle.meaning.specs.Translation.{translated, stepCount}
-use Rattle.meaning.proofs.Counts.{translated-length, translated-legal}
 use Rattle.fields.specs.Read.{pick}
 use Rattle.program.specs.Rel.{programBytes}
-use Rattle.program.proofs.File.{program-written}
-use Rattle.program.proofs.Encoded.{program-length, program-bytes}
+use Rattle.program.proofs.Encoded.{program-bytes}
 use Rattle.writing.specs.Lent.{accepted, turnedAway, over, untouched, stored, lent, fileIn}
 use Rattle.writing.proofs.Stored.{stored-there, stored-file}
+use Rattle.translator.proofs.Checked.{file-length, translated-checked}
 use Rattle.translator.specs.Translate.{programOf, translatedQuery, translation}
 use Rattle.trammelbud.specs.Demands.{OfGraph, OfQuery, OfProgram}
 use Rattle.trammelbud.proofs.Legal.{graph-legal, query-legal}
@@ -47,9 +45,6 @@ module _ {gra : List ℕ} {g : Graph} (graph : OfGraph gra g) {qry : List ℕ} {
   unfolding translation translatedQuery programOf lent
   many-turned many = rw (graph .accepts, query .accepts, many)
 
-  file-length : length file ≡ 6 + 3 * stepCount p
-  file-length = program-length (translated g p) ∙ ap (λ n. 6 + 3 * n) (translated-length g p)
-
   pub translate-answers : 6 + 3 * stepLimit ≤ length b
       → translation gra qry b .answer ≡ pick (leb (stepCount p) stepLimit) (accepted (6 + 3 * stepCount p)) (turnedAway (record { reason = Steps }))
   translate-answers room = by-count (leb (stepCount p) stepLimit) refl
@@ -57,7 +52,7 @@ module _ {gra : List ℕ} {g : Graph} (graph : OfGraph gra g) {qry : List ℕ} {
       by-count : (c : Bool) → leb (stepCount p) stepLimit ≡ c → translation gra qry b .answer ≡ pick c (accepted (6 + 3 * stepCount p)) (turnedAway (record { reason = Steps }))
       by-count true e =
           let few = leb-true (stepCount p) stepLimit e in
-          ap (λ l. l .answer) (few-stored few ∙ stored-there file b (omega (arith, file-length, few, room))) ∙ ap accepted file-length
+          ap (λ l. l .answer) (few-stored few ∙ stored-there file b (omega (arith, file-length g p, few, room))) ∙ ap accepted (file-length g p)
       by-count false e = ap (λ l. l .answer) (many-turned e)
 
   module _ (h : translation gra qry b .answer .number ≡ 0) where
@@ -74,5 +69,5 @@ module _ {gra : List ℕ} {g : Graph} (graph : OfGraph gra g) {qry : List ℕ} {
     -- the file that was written holds the query's program
     pub program-there : OfProgram g (fileIn (translation gra qry b)) (translated g p)
     program-there =
-        let legal : LegalProgram stepLimit (g .k) (translated g p) = translated-legal stepLimit g (graph-legal graph) p (query-legal query) few-steps in
-        rw file-there record { bytes = program-bytes (graph-legal graph .most-types) legal; end = length file; accepts = program-written legal }
+        let checked = translated-checked g p (graph-legal graph) (query-legal query) few-steps in
+        rw file-there record { bytes = program-bytes (graph-legal graph .most-types) (checked .legal); end = length file; accepts = checked .reads-back }

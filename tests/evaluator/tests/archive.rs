@@ -2,22 +2,16 @@
 //! only where the archive is given.
 #![cfg(archive)]
 
+mod common;
+
 use evaluator::{example, trammelbud};
 
 #[test]
 fn queries_select_as_printed() {
-    for (case, asked) in (1..).zip(example::queries()) {
-        let (mut out, mut work) = ([0; 9], [0; 24 * 2048]);
-        let answer = trammelbud::select(
-            &example::gra(),
-            &example::edg(),
-            &asked.qry,
-            &mut out,
-            &mut work,
-        );
-        assert_eq!(answer.number, 0, "C{case}");
-        assert_eq!(out[..answer.count as usize], *asked.selects, "C{case}");
-    }
+    common::selects_as_printed(|gra, edg, qry, out, work| {
+        let answer = trammelbud::select(gra, edg, qry, out, work);
+        (answer.number, answer.count)
+    });
 }
 
 #[test]

@@ -1,5 +1,7 @@
 //! The example of 01, by the walk over the tree and by translating and running.
 
+mod common;
+
 use evaluator::example::{self, Asked};
 use evaluator::query::code;
 use evaluator::{calls, plan};
@@ -37,18 +39,10 @@ fn tables_are_42_bytes_and_go_back() {
 
 #[test]
 fn tree_walk_selects_as_printed() {
-    for (case, asked) in (1..).zip(example::queries()) {
-        let (mut out, mut work) = ([0; 9], [0; WORK]);
-        let answer = calls::select(
-            &example::gra(),
-            &example::edg(),
-            &asked.qry,
-            &mut out,
-            &mut work,
-        );
-        assert_eq!(answer.number, 0, "C{case}");
-        assert_eq!(out[..answer.count as usize], *asked.selects, "C{case}");
-    }
+    common::selects_as_printed(|gra, edg, qry, out, work| {
+        let answer = calls::select(gra, edg, qry, out, work);
+        (answer.number, answer.count)
+    });
 }
 
 #[test]

@@ -2,6 +2,7 @@
 #![allow(dead_code)] // each test file uses its own part
 
 use evaluator::cursor::opening;
+use evaluator::example;
 use evaluator::refusal::File;
 
 /// A graph of one type that may stand in itself.
@@ -53,4 +54,16 @@ pub fn slashes(nodes: usize) -> Vec<u8> {
 /// A chain of child tests joined by `count` double slashes.
 pub fn double_slashes(count: usize) -> Vec<u8> {
     [vec![5; count], [2, 0].repeat(count + 1)].concat()
+}
+
+/// Each of 01's fourteen queries, put to a call of `select`'s shape, which
+/// answers number and count, selects the nodes that 01 prints.
+pub fn selects_as_printed(select: impl Fn(&[u8], &[u8], &[u8], &mut [u8], &mut [u8]) -> (u8, u32)) {
+    for (case, asked) in (1..).zip(example::queries()) {
+        let (mut out, mut work) = ([0; 9], [0; 24 * 2048]);
+        let (gra, edg) = (example::gra(), example::edg());
+        let (number, count) = select(&gra, &edg, &asked.qry, &mut out, &mut work);
+        assert_eq!(number, 0, "C{case}");
+        assert_eq!(out[..count as usize], *asked.selects, "C{case}");
+    }
 }
