@@ -1,4 +1,5 @@
 pub mod Laws
+pub mod Decoder
 pub mod Whole
 pub mod File
 pub mod Held

@@ -1,5 +1,5 @@
 -- REL: step count; steps of three bytes: operation, x, y.
-use Prim.Native.Nat.{ℕ, zero, suc, _-_, _^_}
+use Prim.Native.Nat.{ℕ, zero, suc, _+_, _-_, _*_, _^_}
 use mathlib.Core.Bool.{Bool, _&&_}
 use mathlib.Core.List.{List, [], _∷_, _++_}
 use lib.Dec.{ltb, leb}
@@ -123,3 +123,23 @@ stepsBytes (o ∷ os) = stepBytes o ++ stepsBytes os
 -- the file of a program
 unfoldable pub programBytes : List Operation → List ℕ
 programBytes os = headerOf 0x52 0x45 0x4C ++ byteOf (length os) ++ stepsBytes os
+
+-- what two bytes stand for, as the layout has them
+abbrev pub xOf : Layout → ℕ → ℕ → ℕ
+xOf Zeros p q = 0
+xOf Single p q = p
+xOf Pair p q = p
+xOf Number p q = p * 256 + q
+xOf Mask p q = p * 256 + q
+
+abbrev pub yOf : Layout → ℕ → ℕ
+yOf Zeros q = 0
+yOf Single q = 0
+yOf Pair q = q
+yOf Number q = 0
+yOf Mask q = 0
+
+-- the operation of three bytes, a code and two more; SELF, where no operation has the code
+abbrev pub decodedOf : ℕ → ℕ → ℕ → Operation
+decodedOf zero p q = Itself
+decodedOf (suc c) p q = operationOf (suc c) (xOf (layoutOf (suc c)) p q) (yOf (layoutOf (suc c)) q)

@@ -1,10 +1,10 @@
-// The program file: its reader, and the writer of one step, both by one table of layouts.
+// The program file: its reader, and for one step the writer and the decoder, all by one table of layouts.
 ghost use mathlib.Core.Path.{_≡_};
 ghost use mathlib.Core.List.{[], _∷_};
 ghost use Prim.Native.Nat.{_<_, _≤_, _^_, _/_, _%_};
 ghost use lib.Dec.{ltb};
 ghost use Rattle.fields.specs.Read.{readOf, ended};
-ghost use Rattle.program.specs.Rel.{layoutOf, byteUpTo, byteBelow, maskWord, readX, readY, operationOf, stepRead, stepsRead, programFile, coded, stepBytes};
+ghost use Rattle.program.specs.Rel.{layoutOf, byteUpTo, byteBelow, maskWord, readX, readY, operationOf, stepRead, stepsRead, programFile, coded, stepBytes, xOf, yOf, decodedOf};
 ghost use Rattle.meaning.specs.Records.{programOf};
 ghost use Rattle.program.specs.Answers.{Coded, unreadBy, stepAnswer, refusedBy, addedTo, programRead};
 use fields::Cursor;
@@ -25,7 +25,7 @@ pub enum Layout {
     Mask,
 }
 
-// The layouts of operations 01 to 09, for the reader and for the writer.
+// The layouts of operations 01 to 09, for the reader, the writer and the decoder.
 pub const LAYOUTS: [Layout; 9] = [
     Layout::Mask, // 01 TABLE
     Layout::Zeros, // 02 SELF
@@ -324,4 +324,44 @@ pub fn step_bytes(o: Operation) -> StepBytes
         Operation::Diff(a, b) => laid(8, wide(a), b),
         Operation::Both(a, b) => laid(9, wide(a), b),
     }
+}
+
+// What x stands for in a step that is laid so.
+fn x_of(layout: Layout, x: u8, y: u8) -> u16
+    ensures { λ r. ⌜ r ≡ xOf layout x y ⌝ }
+{
+    match layout {
+        Layout::Zeros => 0,
+        Layout::Single => wide(x),
+        Layout::Pair => wide(x),
+        Layout::Number => wide(x) * 256 + wide(y),
+        Layout::Mask => wide(x) * 256 + wide(y),
+    }
+}
+
+// What y stands for.
+fn y_of(layout: Layout, y: u8) -> u16
+    ensures { λ r. ⌜ r ≡ yOf layout y ⌝ }
+{
+    match layout {
+        Layout::Zeros => 0,
+        Layout::Single => 0,
+        Layout::Pair => wide(y),
+        Layout::Number => 0,
+        Layout::Mask => 0,
+    }
+}
+
+// The operation of a step's three bytes; SELF, where no operation has the code.
+pub fn decoded(code: u8, x: u8, y: u8) -> Operation
+    ensures { λ r. ⌜ r ≡ decodedOf code x y ⌝ }
+{
+    if code < 1 {
+        return Operation::Itself;
+    }
+    if 9 < code {
+        return Operation::Itself;
+    }
+    let layout = layout_of(wide(code));
+    operation(wide(code), x_of(layout, x, y), y_of(layout, y))
 }

@@ -1,0 +1,189 @@
+// Rows of bits. In the work area a row is 16 bytes, and bit w of it is bit w mod 8, lowest first, of its byte w div 8; in
+// hand it is two words, so that a whole row is mixed, searched and counted in a few steps.
+ghost use mathlib.Core.Path.{_≡_};
+ghost use Prim.Native.Nat.{_+_, _*_, _≤_, _<_};
+ghost use Rattle.meaning.specs.Sets.{bit, mask, listed};
+ghost use lib.ListN.{length};
+ghost use Rattle.rows.specs.Rows.{inRow, inBytes, stretch, rowsFrom, rowsAt, Bits, including, gathered, mixes, mixedWord, Lowest, RowMade, Next};
+ghost use Rattle.writing.specs.Lent.{over};
+
+fn wide(byte: u8) -> u64
+    ensures { λ r. ⌜ (r ≡ byte) × (r < 256) ⌝ }
+{
+    byte as u64
+}
+
+// Byte k of a word, the lowest first.
+fn byte_of(word: u64, k: usize) -> u8
+    requires { ⌜ k < 8 ⌝ }
+    ensures { λ r. ⌜ r ≡ mask 8 (λ i. bit word (8 * k + i)) ⌝ }
+{
+    ((word >> (8 * k)) % 256) as u8
+}
+
+// The eight bytes from a place on.
+fn read_word(bytes: &[u8], at: usize) -> u64
+    requires { ⌜ at + 8 ≤ length (now bytes) ⌝ }
+    ensures { λ r. ⌜ r ≡ mask 64 (inBytes (stretch 8 (now (bytes .entry)) at)) ⌝ }
+{
+    let mut word: u64 = 0;
+    let mut k: usize = 0;
+    while k < 8 {
+        word = word | (wide(bytes[at + k]) << (8 * k));
+        k += 1;
+    }
+    word
+}
+
+// The row that stands at a place.
+pub fn read(bytes: &[u8], at: usize) -> [u64; 2]
+    requires { ⌜ at + 16 ≤ length (now bytes) ⌝ }
+    ensures { λ r. ⌜ Bits r (inBytes (stretch 16 (now (bytes .entry)) at)) ⌝ }
+{
+    [read_word(bytes, at), read_word(bytes, at + 8)]
+}
+
+// Writes a word to a place.
+fn write_word(work: &mut [u8], at: usize, word: u64)
+    requires { ⌜ at + 8 ≤ length (now work) ⌝ }
+    ensures { λ r. ⌜ RowMade 8 (now (work .entry)) (now (work .exit)) at (bit word) ⌝ }
+{
+    let mut k: usize = 0;
+    while k < 8 {
+        work[at + k] = byte_of(word, k);
+        k += 1;
+    }
+}
+
+// Writes a row to a place.
+pub fn write(work: &mut [u8], at: usize, row: [u64; 2])
+    requires { ⌜ at + 16 ≤ length (now work) ⌝ }
+    ensures { λ r. ⌜ RowMade 16 (now (work .entry)) (now (work .exit)) at (inRow row) ⌝ }
+{
+    write_word(work, at, row[0]);
+    write_word(work, at + 8, row[1]);
+}
+
+// Puts w into the row that stands at a place, where it is to be there.
+pub fn put(work: &mut [u8], at: usize, w: usize, there: bool)
+    requires { ⌜ (at + 16 ≤ length (now work)) × (w < 128) ⌝ }
+    ensures { λ r. ⌜ RowMade 16 (now (work .entry)) (now (work .exit)) at (including (inBytes (stretch 16 (now (work .entry)) at)) w there) ⌝ }
+{
+    if there {
+        let byte = at + w / 8;
+        work[byte] = work[byte] | (1 << (w % 8));
+    }
+}
+
+// The row with w in it, where it is to be there.
+pub fn with(row: [u64; 2], w: usize, there: bool) -> [u64; 2]
+    requires { ⌜ w < 128 ⌝ }
+    ensures { λ r. ⌜ Bits r (including (inRow row) w there) ⌝ }
+{
+    let mut more = row;
+    if there {
+        let word = w / 64;
+        more[word] = more[word] | (1 << (w % 64));
+    }
+    more
+}
+
+// The lowest bit of a word that is set.
+fn lowest(word: u64) -> usize
+    requires { ⌜ 0 < word ⌝ }
+    ensures { λ r. ⌜ Lowest 64 word r ⌝ }
+{
+    u64::trailing_zeros(word) as usize
+}
+
+// The first w of a row from a number on, or 128.
+pub fn next(row: [u64; 2], from: usize) -> usize
+    requires { ⌜ from ≤ 128 ⌝ }
+    ensures { λ r. ⌜ Next 128 (inRow row) from r ⌝ }
+{
+    let mut w = from;
+    while w < 128 {
+        let rest = row[w / 64] >> (w % 64);
+        if rest != 0 {
+            return w + lowest(rest);
+        }
+        w = (w / 64 + 1) * 64;
+    }
+    128
+}
+
+// How two rows are mixed: what is in either, in both, or in the first alone.
+pub enum Mix {
+    Either,
+    Both,
+    First,
+}
+
+fn mixed_word(how: Mix, x: u64, y: u64) -> u64
+    ensures { λ r. ⌜ r ≡ mixedWord how x y ⌝ }
+{
+    match how {
+        Mix::Either => x | y,
+        Mix::Both => x & y,
+        Mix::First => x & !y,
+    }
+}
+
+pub fn mixed(how: Mix, x: [u64; 2], y: [u64; 2]) -> [u64; 2]
+    ensures { λ r. ⌜ Bits r (λ w. mixes how (inRow x w) (inRow y w)) ⌝ }
+{
+    [mixed_word(how, x[0], y[0]), mixed_word(how, x[1], y[1])]
+}
+
+// A row with those rows taken in, of the 64 from a place on, that a word names.
+fn gather_word(bytes: &[u8], at: usize, which: u64, start: [u64; 2]) -> [u64; 2]
+    requires { ⌜ at + 1024 ≤ length (now bytes) ⌝ }
+    ensures { λ r. ⌜ Bits r (gathered 64 (rowsFrom 16 (now (bytes .entry)) at) (bit which) (inRow start)) ⌝ }
+{
+    let mut all = start;
+    let mut left = which;
+    while left != 0 {
+        let u = lowest(left);
+        let more = mixed(Mix::Either, all, read(bytes, at + 16 * u));
+        all = more;
+        left = left - (1 << u);
+    }
+    all
+}
+
+// A row with the rows of the room at base taken in that `which` names.
+pub fn gather(bytes: &[u8], base: usize, which: [u64; 2], start: [u64; 2]) -> [u64; 2]
+    requires { ⌜ base + 2048 ≤ length (now bytes) ⌝ }
+    ensures { λ r. ⌜ Bits r (gathered 128 (rowsAt 16 (now (bytes .entry)) base) (inRow which) (inRow start)) ⌝ }
+{
+    let first = gather_word(bytes, base, which[0], start);
+    gather_word(bytes, base + 1024, which[1], first)
+}
+
+// How many bits of a word are set.
+fn ones(word: u64) -> u32
+    ensures { λ r. ⌜ (r ≡ length (listed 64 (bit word))) × (r ≤ 64) ⌝ }
+{
+    u64::count_ones(word)
+}
+
+// How many w a row has.
+pub fn count(row: [u64; 2]) -> u32
+    ensures { λ r. ⌜ r ≡ length (listed 128 (inRow row)) ⌝ }
+{
+    ones(row[0]) + ones(row[1])
+}
+
+// Lists the w of a row that are below size, ascending.
+pub fn list(row: [u64; 2], size: usize, out: &mut [u8])
+    requires { ⌜ (size ≤ 128) × (size ≤ length (now out)) ⌝ }
+    ensures { λ r. ⌜ now (out .exit) ≡ over 0 (listed size (inRow row)) (now (out .entry)) ⌝ }
+{
+    let mut m: usize = 0;
+    let mut w = next(row, 0);
+    while w < size {
+        out[m] = w as u8;
+        m += 1;
+        w = next(row, w + 1);
+    }
+}
