@@ -3,22 +3,23 @@ use libc::STDOUT_FILENO;
 use loading::load;
 use meaning::Answer;
 
-fn print_refused(number: u8) {
-    io::write_all(STDOUT_FILENO, b"refused ");
-    io::print_decimal(STDOUT_FILENO, number as u64);
-    io::write_all(STDOUT_FILENO, b"\n");
-}
-
-// The listing is inside the buffer, as the call's contract says; to ask once more spares main a contract of its own.
-fn print_listing(text: &[u8], length: usize) {
+// The text is inside the buffer, as the contract of the call that wrote it says; to ask once more spares main a contract of
+// its own.
+fn print_text(text: &[u8], length: usize) {
     if length <= text.len() {
         io::write_all(STDOUT_FILENO, &text[..length]);
     }
 }
 
-fn print(answer: Answer, text: &[u8]) {
+fn print_refused(number: u8) {
+    let mut line = [0u8; 14];
+    let length = text::refusal(number, &mut line);
+    print_text(&line, length);
+}
+
+fn print(answer: Answer, listing: &[u8]) {
     if answer.number == 0 {
-        print_listing(text, answer.count as usize);
+        print_text(listing, answer.count as usize);
     } else {
         print_refused(answer.number);
     }
@@ -34,8 +35,8 @@ fn main() {
     let e = load(b"tables.edg", &mut edg);
     let mut qry = [0u8; 1024];
     let q = load(b"query.qry", &mut qry);
-    let mut text = [0u8; 2048];
+    let mut listing = [0u8; 2048];
     let mut work = [0u8; 49152];
-    let answer = trammelbud::tb_list(&gra[..g], &edg[..e], &qry[..q], &mut text, &mut work);
-    print(answer, &text);
+    let answer = trammelbud::tb_list(&gra[..g], &edg[..e], &qry[..q], &mut listing, &mut work);
+    print(answer, &listing);
 }

@@ -1,10 +1,10 @@
--- Document 01's listing, for C5, computed from the definitions; and node 0's line.
+-- Document 01's listing, for C5, computed from the definitions; node 0's line; and a refusal.
 use Prim.Native.Nat.{ℕ}
 use mathlib.Core.Path.{_≡_, refl}
 use mathlib.Core.List.{List, [], _∷_, _++_}
 use Rattle.meaning.specs.declared.Element.{Element}
 use Rattle.meaning.specs.Documents.{node, view}
-use Rattle.text.specs.Listing.{digits, decimal, firstLine, line, lines, listing}
+use Rattle.text.specs.Listing.{digits, decimal, firstLine, line, lines, listing, refusal}
 
 element : ℕ → ℕ → ℕ → Element
 element p t x = record { parent = p; kind = t; text = x }
@@ -25,3 +25,8 @@ for-c5 = refl
 for-node-0 : line (view elements) 0 ≡ 48 ∷ 32 ∷ 49 ∷ 54 ∷ 32 ∷ 48 ∷ 10 ∷ []
 unfolding element elements node view digits decimal line
 for-node-0 = refl
+
+-- `refused 12`
+for-room : refusal 12 ≡ (114 ∷ 101 ∷ 102 ∷ 117 ∷ 115 ∷ 101 ∷ 100 ∷ 32 ∷ 49 ∷ 50 ∷ 10 ∷ [])
+unfolding digits decimal refusal
+for-room = refl

@@ -3,4 +3,5 @@ pub mod Decimals
 pub mod Numbers
 pub mod LineLaws
 pub mod Turns
+pub mod Refusals
 pub mod Example

@@ -37,6 +37,9 @@ linesLimit = nodeLimit * lineLimit
 abbrev pub listingLimit : ℕ
 listingLimit = firstLimit + linesLimit
 
+abbrev pub refusalLimit : ℕ
+refusalLimit = 8 + (numberLimit + 1)
+
 -- r is the length of the bytes, and no more than the limit
 pub record Long (bytes : List ℕ) (limit r : ℕ) : Type 0 where
   pub counted : r ≡ length bytes

@@ -1,5 +1,5 @@
--- The listing: `selected` and the count, then a line of number, type and text number for each node; decimal numbers, one
--- space between fields, byte 10 at the end of a line.
+-- The listing: `selected` and the count, then a line of number, type and text number for each node; or `refused` and the
+-- number. Decimal numbers, one space between fields, byte 10 at the end of a line.
 use Prim.Native.Nat.{ℕ, zero, suc, _+_, _/_, _%_}
 use mathlib.Core.List.{List, [], _∷_, _++_}
 use lib.Dec.{ltb}
@@ -40,3 +40,11 @@ lines d (v ∷ vs) = line d v ++ lines d vs
 
 unfoldable pub listing : View → List ℕ → List ℕ
 listing d nodes = firstLine (length nodes) ++ lines d nodes
+
+-- `refused`
+abbrev pub refusedWord : List ℕ
+refusedWord = 114 ∷ 101 ∷ 102 ∷ 117 ∷ 115 ∷ 101 ∷ 100 ∷ []
+
+-- a refusal: `refused` and its number alone
+unfoldable pub refusal : ℕ → List ℕ
+refusal number = refusedWord ++ space ++ decimal number ++ endOfLine

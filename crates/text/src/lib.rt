@@ -1,4 +1,4 @@
-// The listing's text: how long it is, and its bytes.
+// The listing's text: how long it is, and its bytes; and the text of a refusal.
 ghost use mathlib.Core.Path.{_≡_};
 ghost use mathlib.Core.List.{[], _∷_, _++_};
 ghost use Prim.Native.Nat.{_+_, _%_, _≤_, _<_};
@@ -7,8 +7,8 @@ ghost use Rattle.meaning.specs.Documents.{view};
 ghost use Rattle.meaning.specs.Records.{elementsIn};
 ghost use Rattle.fields.specs.Write.{byteOf};
 ghost use Rattle.writing.specs.Put.{Put};
-ghost use Rattle.text.specs.Listing.{decimal, space, selectedWord, firstLine, line, lines, listing};
-ghost use Rattle.text.specs.Listable.{Padded, Listable, numberLimit, lineLimit, firstLimit, linesLimit, listingLimit, Long};
+ghost use Rattle.text.specs.Listing.{decimal, space, selectedWord, firstLine, line, lines, listing, refusedWord, refusal};
+ghost use Rattle.text.specs.Listable.{Padded, Listable, numberLimit, lineLimit, firstLimit, linesLimit, listingLimit, refusalLimit, Long};
 use meaning::Document;
 
 fn digit(n: u16) -> u8
@@ -153,4 +153,22 @@ pub fn write(document: Document, nodes: &[u8], count: usize, out: &mut [u8]) -> 
 {
     let next = first_line(out, count as u16);
     lines(document, nodes, count, out, next)
+}
+
+// The word `refused` and a space, at the start.
+fn refused(out: &mut [u8]) -> usize
+    requires { ⌜ 8 ≤ length (now out) ⌝ }
+    ensures { λ r. ⌜ Put 0 (refusedWord ++ space) (now (out .entry)) (now (out .exit)) r ⌝ }
+{
+    let half = four(out, 0, b'r', b'e', b'f', b'u');
+    four(out, half, b's', b'e', b'd', b' ')
+}
+
+// Writes the text of a refusal to the buffer's start, and answers where it ends.
+pub fn refusal(number: u8, out: &mut [u8]) -> usize
+    requires { ⌜ refusalLimit ≤ length (now out) ⌝ }
+    ensures { λ r. ⌜ Put 0 (refusal number) (now (out .entry)) (now (out .exit)) r ⌝ }
+{
+    let next = refused(out);
+    field(out, next, wide(number), b'\n')
 }
