@@ -3,10 +3,8 @@ use Prim.Native.Nat.{ℕ, _+_, _≤_, _<_}
 use mathlib.Core.Path.{_≡_, refl, sym, ap, _∙_}
 use mathlib.Core.List.{List}
 use mathlib.Core.Logic.{_⊎_, ⊎-elim}
-use native.Mathlib.Nat.{zero-add, add-assoc}
 use native.Mathlib.Omega.{arith}
 use borrow.Author.Count.{below-none, below-more}
-use borrow.Author.Needs.{needs}
 use lib.ListN.{length, getD, set, take, drop, length-set, length-take, length-drop, List·getD-eq-default}
 use lib.Seq.{getD-set-same, getD-set-other, getD-take, getD-drop, drop-set-add, take-set-lt, ext-getD}
 use Rattle.rows.specs.Rows.{stretch, Kept, Written}
@@ -55,10 +53,6 @@ pub written-called : {xs ys zs : List ℕ} {from k size v : ℕ} {f : ℕ → �
     → zs ≡ set ys (from + k) v → Written xs zs from (k + 1) f
 written-called {ys = ys} {from = from} {k = k} w l r h e = written-more w l r (e ∙ ap (set ys (from + k)) h)
 
--- the turn of one that fills a list of so many
-pub front-more : {xs ys zs : List ℕ} {k size : ℕ} {f : ℕ → ℕ} → Written xs ys 0 k f → k < size → length ys ≡ size → zs ≡ set ys k (f k) → Written xs zs 0 (k + 1) f
-front-more {k = k} w l r e = rw e (rw (zero-add k) at (written-next w (omega arith)))
-
 module _ (size : ℕ) (xs : List ℕ) (at : ℕ) where
   pub stretch-length : at + size ≤ length xs → length (stretch size xs at) ≡ size
   unfolding stretch
@@ -83,17 +77,9 @@ stretch-is size xs ys at l e h =
     ext-getD 0 (stretch size xs at) ys (stretch-length size xs at l ∙ sym e)
     (λ k m. let small : k < size = omega (arith, stretch-length size xs at l) in stretch-at size xs at k small ∙ h k small)
 
--- a stretch of a stretch
-pub stretch-inside : (size part : ℕ) (xs : List ℕ) (at from : ℕ) → from + part ≤ size → at + size ≤ length xs → stretch part (stretch size xs at) from ≡ stretch part xs (at + from)
-stretch-inside size part xs at from l r =
-    stretch-is part (stretch size xs at) (stretch part xs (at + from)) from (omega (arith, stretch-length size xs at r)) (stretch-length part xs (at + from) (omega arith))
-    (λ k h. stretch-at size xs at (from + k) (omega arith) ∙ ap (λ (i : ℕ). getD xs i 0) (sym (add-assoc at from k)) ∙ sym (stretch-at part xs (at + from) k h))
-
 -- what is kept is the same stretch
 pub stretch-kept : (size : ℕ) {xs ys : List ℕ} {from room : ℕ} (at : ℕ) → Kept xs ys from room → at + size ≤ length xs → (at + size ≤ from) ⊎ (from + room ≤ at)
     → stretch size ys at ≡ stretch size xs at
 stretch-kept size {xs} {ys} {from} {room} at k l apart =
     stretch-is size ys (stretch size xs at) at (omega (arith, k .same)) (stretch-length size xs at l)
     (λ j m. ⊎-elim (λ a. k .before (at + j) (omega arith)) (λ a. k .after (at + j) (omega arith)) apart ∙ sym (stretch-at size xs at j m))
-
-pub ruleset laws = (written-none, written-more, written-called, front-more, needs)

@@ -20,7 +20,8 @@ use Rattle.meaning.specs.Records.{elementsIn}
 use Rattle.meaning.proofs.Records.{at-any}
 use Rattle.meaning.proofs.Tests.{and-in, and-left, and-right}
 use Rattle.meaning.proofs.Views.{element-there, parent-element, test-element}
-use Rattle.runner.specs.Rooms.{inRow, including, stretch, upTo, diagonal, RowMade, Made}
+use Rattle.rows.specs.Rows.{inBytes, including, stretch, RowMade, diagonal}
+use Rattle.runner.specs.Rooms.{upTo, Made}
 use Rattle.runner.specs.Ready.{shown, Nodes}
 use Rattle.runner.proofs.Rooms.{columns, columns-first, columns-all, columns-more, upTo-all, rows-first, diagonal-more, made-after, made-as}
 
@@ -68,7 +69,7 @@ module _ (d : Document) (nodes : Nodes d) where
     pub table-more : (width : ℕ) {old xs ys : List ℕ} {base : ℕ} (mask : ℕ) → d .count < 8 * width → base + width * (8 * width) ≤ length old
         → Made width old xs base (columns w (rows (shown d) [] (Table mask)))
         → RowMade width xs ys (base + width * getD (d .elements) (w - 1) blank .parent)
-        (including (inRow (stretch width xs (base + width * getD (d .elements) (w - 1) blank .parent))) w (bit mask (getD (d .elements) (w - 1) blank .kind)))
+        (including (inBytes (stretch width xs (base + width * getD (d .elements) (w - 1) blank .parent))) w (bit mask (getD (d .elements) (w - 1) blank .kind)))
         → Made width old ys base (columns (w + 1) (rows (shown d) [] (Table mask)))
     unfolding rows isParent view
     table-more width mask e room m k =
@@ -82,7 +83,7 @@ module _ (d : Document) (nodes : Nodes d) where
     -- the turn of the loop that tests texts
     pub text-more : (width : ℕ) {old xs ys : List ℕ} {base : ℕ} (number : ℕ) → d .count < 8 * width → base + width * (8 * width) ≤ length old
         → Made width old xs base (upTo w (rows (shown d) [] (Text number)))
-        → RowMade width xs ys (base + width * w) (including (inRow (stretch width xs (base + width * w))) w (eqb (getD (d .elements) (w - 1) blank .text) number))
+        → RowMade width xs ys (base + width * w) (including (inBytes (stretch width xs (base + width * w))) w (eqb (getD (d .elements) (w - 1) blank .text) number))
         → Made width old ys base (upTo (w + 1) (rows (shown d) [] (Text number)))
     unfolding rows diagonal textTest view
     text-more width number e room m k =

@@ -15,8 +15,8 @@ use Rattle.meaning.proofs.Sets.{bit-mask}
 use Rattle.writing.specs.Lent.{over}
 use Rattle.writing.proofs.Puts.{over-front, over-length}
 use Rattle.runner.specs.Layout.{rowBytes, roomBytes, roomByte, workByte, joined, table, overwritten}
-use Rattle.runner.specs.Rooms.{rowsAt}
-use Rattle.runner.proofs.Bits.{is-mask}
+use Rattle.rows.specs.Rows.{rowsAt}
+use Rattle.rows.proofs.Bits.{is-mask}
 use Rattle.runner.proofs.Rooms.{room-bit}
 
 module _ {A : Type 0} (f : ℕ → A) where

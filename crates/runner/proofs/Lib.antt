@@ -1,9 +1,3 @@
-pub mod Cases
-pub mod Bits
-pub mod Bytes
-pub mod Rows
-pub mod Searches
-pub mod Answers
 pub mod Rooms
 pub mod Turns
 pub mod Elements
@@ -16,13 +10,3 @@ pub mod Outcomes
 pub mod Prepared
 pub mod Files
 pub mod Theorems
-pub mod GlanceLists
-pub mod GlanceReads
-pub mod GlanceSteps
-pub mod GlanceSets
-pub mod GlanceRounds
-pub mod GlanceOperations
-pub mod GlanceCalls
-pub mod GlanceLays
-pub mod GlanceAnswers
-pub mod GlanceHeld

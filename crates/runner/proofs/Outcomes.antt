@@ -22,12 +22,12 @@ use Rattle.meaning.proofs.Tests.{fails}
 use Rattle.meaning.proofs.Sets.{listed-cong}
 use Rattle.writing.specs.Lent.{accepted, turnedAway, over}
 use Rattle.runner.specs.Layout.{rowBytes, roomBytes, workByte, overwritten}
-use Rattle.runner.specs.Rooms.{inRow, stretch}
-use Rattle.runner.specs.Ready.{shown, Ready}
+use Rattle.rows.specs.Rows.{inRow, inBytes, Bits, stretch}
+use Rattle.runner.specs.Ready.{shown, Nodes, Ready}
 use Rattle.runner.specs.Run.{leaves, performed, Gives}
-use Rattle.runner.proofs.Cases.{by-order}
-use Rattle.runner.proofs.Rows.{row-bit, row-past}
-use Rattle.runner.proofs.Searches.{listed-still}
+use Rattle.rows.proofs.Cases.{by-order}
+use Rattle.rows.proofs.Rows.{row-bit, row-past}
+use Rattle.rows.proofs.Searches.{listed-still}
 use Rattle.runner.proofs.Layouts.{joined-is}
 use Rattle.runner.proofs.Steps.{size-is}
 use Rattle.runner.proofs.Performing.{run-on}
@@ -41,6 +41,17 @@ module _ (room : ℕ) (bytes : List ℕ) (d : View) (os : List Operation) (out w
   pub leaves-all : room ≤ length out → roomBytes * length os ≤ length work
       → Gives (leaves room bytes d os out work) (accepted (length bytes)) (over 0 bytes out) (overwritten (workByte d os) (roomBytes * length os) work)
   leaves-all a b = rw (le-leb room (length out) a, le-leb (roomBytes * length os) (length work) b)
+
+-- A row that has what a program selects: its numbers are the answer, below the number of nodes and in all.
+module _ (d : Document) (n : Nodes d) (os : List Operation) (row : List ℕ) (selected : (w : ℕ) → inRow row w ≡ at (run (shown d) os) (last os) 0 w) where
+  pub row-listed : listed (d .count + 1) (inRow row) ≡ answer (shown d) os
+  unfolding answer
+  row-listed = ap (λ (k : ℕ). listed k (inRow row)) (size-is d n) ∙ listed-cong (shown d .size) _ _ (λ w l. selected w)
+
+  pub row-counted : listed 128 (inRow row) ≡ answer (shown d) os
+  row-counted =
+      listed-still (d .count + 1) 128 (inRow row) (omega (arith, n .few))
+      (λ w a b. fails (inRow row w) (λ h. omega (arith, size-is d n, run-on d n os (last os) 0 w (sym (selected w) ∙ h) .1))) ∙ row-listed
 
 module _ (d : Document) (p : Program) (out work : List ℕ) (r : Ready d p) where
   pub short-out : {a : Answer} → length out < d .count + 1 → a ≡ turnedAway (record { reason = Room }) → Gives (performed (shown d) (operationsIn p) out work) a out work
@@ -58,7 +69,7 @@ module _ (d : Document) (p : Program) (out work : List ℕ) (r : Ready d p) wher
 
   -- The steps are made.
   module _ {new row : List ℕ} (made : new ≡ overwritten (workByte (shown d) (operationsIn p)) (roomBytes * p .count) work)
-      (read : row ≡ stretch rowBytes new (roomBytes * p .count - roomBytes)) where
+      (read : Bits row (inBytes (stretch rowBytes new (roomBytes * p .count - roomBytes)))) where
     -- the row from node 0 of the last step
     selected : (w : ℕ) → inRow row w ≡ at (run (shown d) (operationsIn p)) (last (operationsIn p)) 0 w
     unfolding last
@@ -67,21 +78,12 @@ module _ (d : Document) (p : Program) (out work : List ℕ) (r : Ready d p) wher
         let s : ℕ = length os - 1 in
         let some = r .legal .some-step in
         let place : roomBytes * p .count - roomBytes ≡ roomBytes * s + rowBytes * 0 = omega (arith, r .whole) in
-        ap (λ (x : List ℕ). inRow x w) (read ∙ ap (stretch rowBytes new) place)
+        read .bits w ∙ ap (λ (i : ℕ). inBytes (stretch rowBytes new i) w) place
         ∙ by-order (w / 8) rowBytes
         (λ l. row-bit rowBytes new (roomBytes * s + rowBytes * 0) w l ∙ ap (λ (x : List ℕ). bit (getD x (roomBytes * s + rowBytes * 0 + w / 8) 0) (w % 8)) made
         ∙ joined-is (shown d) os (p .count) work s 0 w (omega (arith, r .whole)) (omega arith) (omega arith))
         (λ l. row-past rowBytes new (roomBytes * s + rowBytes * 0) w l
         ∙ sym (fails (at (run (shown d) os) s 0 w) (λ h. omega (arith, run-on d (r .nodes) os s 0 w h .1, size-is d (r .nodes), r .nodes .few))))
-
-    nodes-are : listed (d .count + 1) (inRow row) ≡ answer (shown d) (operationsIn p)
-    unfolding answer
-    nodes-are = ap (λ (n : ℕ). listed n (inRow row)) (size-is d (r .nodes)) ∙ listed-cong (shown d .size) _ _ (λ w l. selected w)
-
-    all-are : listed 128 (inRow row) ≡ listed (d .count + 1) (inRow row)
-    all-are =
-        listed-still (d .count + 1) 128 (inRow row) (omega (arith, r .nodes .few)) λ w a b.
-        fails (inRow row w) (λ h. omega (arith, size-is d (r .nodes), run-on d (r .nodes) (operationsIn p) (last (operationsIn p)) 0 w (sym (selected w) ∙ h) .1))
 
     pub all-listed : {nodes : List ℕ} {n : ℕ} {a : Answer} → d .count + 1 ≤ length out → roomBytes * p .count ≤ length work
         → nodes ≡ over 0 (listed (d .count + 1) (inRow row)) out → n ≡ length (listed 128 (inRow row)) → a ≡ accepted n
@@ -89,6 +91,6 @@ module _ (d : Document) (p : Program) (out work : List ℕ) (r : Ready d p) wher
     unfolding performed
     all-listed l m e f g =
         leaves-all (shown d .size) (answer (shown d) (operationsIn p)) (shown d) (operationsIn p) out work (omega (arith, size-is d (r .nodes))) (omega (arith, r .whole))
-        ∙ rw (r .whole, g, f, all-are, e, nodes-are, made)
+        ∙ rw (r .whole, g, f, row-counted d (r .nodes) (operationsIn p) row selected, e, row-listed d (r .nodes) (operationsIn p) row selected, made)
 
 pub ruleset laws = (short-out, short-work, all-listed, needs)

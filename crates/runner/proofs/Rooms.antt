@@ -1,10 +1,10 @@
 -- Laws of rooms: a row of one changed, rows made one after the other, and bits put in column by column.
 use Prim.Native.Nat.{ℕ, zero, suc, _+_, _*_, _/_, _%_, _≤_, _<_}
 use mathlib.Core.Path.{_≡_, refl, sym, ap, ap₂, _∙_, fun-ext}
-use mathlib.Core.Bool.{Bool, true, false, _&&_, _||_, or-false, and-false, and-comm}
+use mathlib.Core.Bool.{Bool, true, false, _&&_, _||_, or-false, and-false, and-true, and-comm}
 use mathlib.Core.List.{List}
 use mathlib.Core.Logic.{inl, inr}
-use native.Mathlib.Nat.{zero-add, mul-le-mul-left}
+use native.Mathlib.Nat.{mul-le-mul-left}
 use native.Mathlib.Omega.{arith}
 use borrow.Author.Tests.{eq-eqb, ne-eqb, lt-ltb, le-ltb}
 use lib.Dec.{eqb, ltb}
@@ -13,11 +13,12 @@ use Rattle.meaning.specs.Sets.{bit}
 use Rattle.meaning.specs.Relations.{Relation, nothing}
 use Rattle.meaning.proofs.Tests.{never, and-implied}
 use Rattle.meaning.proofs.Closure.{On}
-use Rattle.runner.specs.Rooms.{inRow, Bits, including, stretch, rowsAt, upTo, diagonal, Places, Kept, Written, RowMade, Made}
-use Rattle.runner.proofs.Cases.{by-order, by-equal}
+use Rattle.rows.specs.Rows.{inBytes, including, stretch, rowsAt, Kept, Written, RowMade, diagonal}
+use Rattle.runner.specs.Rooms.{upTo, Places, Made}
+use Rattle.rows.proofs.Cases.{by-order, by-equal}
 use Rattle.meaning.proofs.Sets.{bit-none}
-use Rattle.runner.proofs.Bytes.{kept-all, kept-wider, kept-inside, stretch-inside, stretch-kept}
-use Rattle.runner.proofs.Rows.{row-bit, row-past, row-read}
+use Rattle.rows.proofs.Bytes.{kept-all, kept-wider, kept-inside, stretch-kept}
+use Rattle.rows.proofs.Rows.{row-bit, row-past}
 
 -- the rows of r that end below n
 unfoldable pub columns : ℕ → Relation → Relation
@@ -42,6 +43,15 @@ below-next : (u v : ℕ) → (u ≡ v → ⊥) → ltb u v ≡ ltb u (v + 1)
 below-next u v n =
     by-order u v (λ h. lt-ltb u v h ∙ sym (lt-ltb u (v + 1) (omega arith))) (λ h. le-ltb u v h ∙ sym (le-ltb u (v + 1) (omega arith)))
 
+-- what passes below v, and v where it does, is what passes below the next of v
+pub one-more : (f : ℕ → Bool) (v x : ℕ) {there : Bool} → f v ≡ there → (ltb x v && f x) || (there && eqb v x) ≡ ltb x (v + 1) && f x
+one-more f v x {there} h =
+    by-equal x v
+    (λ e. ap₂ (λ (a b : Bool). (a && f x) || (there && b)) (le-ltb x v (omega arith)) (eq-eqb v x (sym e)) ∙ and-true there
+    ∙ sym (ap₂ _&&_ (lt-ltb x (v + 1) (omega arith)) (ap f e ∙ h)))
+    (λ n. ap₂ (λ (a b : Bool). (a && f x) || (there && b)) (below-next x v n) (ne-eqb v x (λ e. n (sym e)))
+    ∙ ap (λ (b : Bool). (ltb x (v + 1) && f x) || b) (and-false there) ∙ or-false _)
+
 module _ (width : ℕ) where
   -- a row ends where the next starts, and the last ends inside the room
   row-order : (u v : ℕ) → u < v → width * u + width ≤ width * v
@@ -49,17 +59,17 @@ module _ (width : ℕ) where
 
   module _ (xs : List ℕ) (base : ℕ) where
     -- a row, and a bit, of a room
-    row-is : (v w : ℕ) → v < 8 * width → inRow (stretch width xs (base + width * v)) w ≡ rowsAt width xs base v w
+    row-is : (v w : ℕ) → v < 8 * width → inBytes (stretch width xs (base + width * v)) w ≡ rowsAt width xs base v w
     unfolding rowsAt
-    row-is v w l = sym (ap (λ (t : Bool). t && inRow (stretch width xs (base + width * v)) w) (lt-ltb v (8 * width) l))
+    row-is v w l = sym (ap (λ (t : Bool). t && inBytes (stretch width xs (base + width * v)) w) (lt-ltb v (8 * width) l))
 
     pub room-bit : (v w : ℕ) → v < 8 * width → w / 8 < width → rowsAt width xs base v w ≡ bit (getD xs (base + width * v + w / 8) 0) (w % 8)
     unfolding rowsAt
-    room-bit v w l m = ap (λ (t : Bool). t && inRow (stretch width xs (base + width * v)) w) (lt-ltb v (8 * width) l) ∙ row-bit width xs (base + width * v) w m
+    room-bit v w l m = ap (λ (t : Bool). t && inBytes (stretch width xs (base + width * v)) w) (lt-ltb v (8 * width) l) ∙ row-bit width xs (base + width * v) w m
 
     no-row : (v w : ℕ) → 8 * width ≤ v → rowsAt width xs base v w ≡ false
     unfolding rowsAt
-    no-row v w l = ap (λ (t : Bool). t && inRow (stretch width xs (base + width * v)) w) (le-ltb v (8 * width) l)
+    no-row v w l = ap (λ (t : Bool). t && inBytes (stretch width xs (base + width * v)) w) (le-ltb v (8 * width) l)
 
     no-column : (v w : ℕ) → width ≤ w / 8 → rowsAt width xs base v w ≡ false
     unfolding rowsAt
@@ -78,20 +88,15 @@ module _ (width : ℕ) where
   unfolding rowsAt
   room-kept {xs} {ys} a k l m = fun-ext λ v. fun-ext λ w.
       by-order v (8 * width)
-      (λ h. ap (λ (row : List ℕ). ltb v (8 * width) && inRow row w)
+      (λ h. ap (λ (row : List ℕ). ltb v (8 * width) && inBytes row w)
       (stretch-kept width (a + width * v) k (omega (arith, row-order v (8 * width) h)) (inl (omega (arith, row-order v (8 * width) h)))))
       (λ h. no-row ys a v w h ∙ sym (no-row xs a v w h))
 
-  -- a copy of a room has its relation
-  pub room-copied : {copy : List ℕ} (xs : List ℕ) (a : ℕ) → copy ≡ stretch (width * (8 * width)) xs a → a + width * (8 * width) ≤ length xs → rowsAt width copy 0 ≡ rowsAt width xs a
-  unfolding rowsAt
-  room-copied {copy} xs a e l = fun-ext λ v. fun-ext λ w.
-      by-order v (8 * width)
-      (λ h. ap (λ (row : List ℕ). ltb v (8 * width) && inRow row w)
-      (ap (λ (ys : List ℕ). stretch width ys (0 + width * v)) e
-      ∙ stretch-inside (width * (8 * width)) width xs a (0 + width * v) (omega (arith, row-order v (8 * width) h)) l
-      ∙ ap (λ (i : ℕ). stretch width xs (a + i)) (zero-add (width * v))))
-      (λ h. no-row copy 0 v w h ∙ sym (no-row xs a v w h))
+  -- the rooms that one is made of stay while it is made
+  pub operands-kept : {old xs : List ℕ} {base a b size : ℕ} → Kept old xs base (width * (8 * width)) → Places width (length old) base a b size
+      → (rowsAt width xs a ≡ rowsAt width old a) × (rowsAt width xs b ≡ rowsAt width old b)
+  operands-kept {a = a} {b} k p =
+      (room-kept a k (omega (arith, p .left, p .room)) (p .left), room-kept b k (omega (arith, p .right, p .room)) (p .right))
 
   -- One row of a room is changed.
   module _ {xs ys : List ℕ} {f : ℕ → Bool} (base v : ℕ) (l : v < 8 * width) (r : base + width * (8 * width) ≤ length xs) (m : RowMade width xs ys (base + width * v) f) where
@@ -102,19 +107,13 @@ module _ (width : ℕ) where
     unfolding rowsAt
     row-elsewhere u w n =
         by-order u (8 * width)
-        (λ h. ap (λ (row : List ℕ). ltb u (8 * width) && inRow row w)
+        (λ h. ap (λ (row : List ℕ). ltb u (8 * width) && inBytes row w)
         (stretch-kept width (base + width * u) (m .others) (omega (arith, row-order u (8 * width) h))
         (by-order u v (λ o. inl (omega (arith, row-order u v o))) (λ o. inr (omega (arith, row-order v u (omega arith)))))))
         (λ h. no-row ys base u w h ∙ sym (no-row xs base u w h))
 
     pub kept-rows : {old : List ℕ} → Kept old xs base (width * (8 * width)) → Kept old ys base (width * (8 * width))
     kept-rows k = kept-inside (omega arith) (omega (arith, row-order v (8 * width) l)) k (m .others)
-
-  -- a row of another room, read while one is made
-  pub row-beside : {old xs row : List ℕ} {base : ℕ} {r : Relation} (a v : ℕ) → Made width old xs base r → base + width * (8 * width) ≤ length old
-      → a + width * (8 * width) ≤ base → v < 8 * width → row ≡ stretch width xs (a + width * v) → Bits row (rowsAt width old a v)
-  row-beside {xs = xs} a v m l b h e =
-      rw (← room-kept a (m .others) (omega arith) b) (row-read width xs a v h e)
 
   pub made-as : {xs ys : List ℕ} {base : ℕ} {r s : Relation} → Made width xs ys base r → ((v w : ℕ) → r v w ≡ s v w) → Made width xs ys base s
   made-as m h = record { rows = λ v w. m .rows v w ∙ h v w; others = m .others }
@@ -144,11 +143,7 @@ module _ (width : ℕ) where
   pub made-after-of : {old xs ys : List ℕ} {base a b size : ℕ} (n : ℕ) (f : Relation → Relation → Relation) → Made width old xs base nothing
       → Places width (length old) base a b size → Made width xs ys base (upTo n (f (rowsAt width xs a) (rowsAt width xs b)))
       → Made width old ys base (upTo n (f (rowsAt width old a) (rowsAt width old b)))
-  made-after-of {a = a} {b = b} n f c p k =
-      let l = p .left in
-      let r = p .right in
-      let o = p .room in
-      rw (← room-kept a (c .others) (omega arith) l, ← room-kept b (c .others) (omega arith) r) (made-after c k)
+  made-after-of n f c p k = let same = operands-kept (c .others) p in rw (← same .0, ← same .1) (made-after c k)
 
   -- rows are made one after the other: none yet, and one more
   pub rows-none : {old xs : List ℕ} {base : ℕ} (r : Relation) → Made width old xs base nothing → Made width xs xs base (upTo 0 r)
@@ -177,7 +172,7 @@ module _ (width : ℕ) where
   -- The same where a row so far blank has v put in, or not.
   pub diagonal-more : {old xs ys : List ℕ} {base : ℕ} (v : ℕ) (t : ℕ → Bool) {there : Bool} → Made width old xs base (upTo v (diagonal t)) → v < 8 * width
       → base + width * (8 * width) ≤ length old → there ≡ t v
-      → RowMade width xs ys (base + width * v) (including (inRow (stretch width xs (base + width * v))) v there) → Made width old ys base (upTo (v + 1) (diagonal t))
+      → RowMade width xs ys (base + width * v) (including (inBytes (stretch width xs (base + width * v))) v there) → Made width old ys base (upTo (v + 1) (diagonal t))
   unfolding upTo diagonal including
   diagonal-more {xs = xs} {base = base} v t {there} m l room e k =
       rows-more v (diagonal t) m l room record { bits = λ w. k .bits w ∙ only w; others = k .others }
@@ -185,7 +180,7 @@ module _ (width : ℕ) where
       blank : (w : ℕ) → upTo v (diagonal t) v w ≡ false
       blank w = ap (λ (b : Bool). b && diagonal t v w) (le-ltb v v (omega arith))
 
-      only : (w : ℕ) → including (inRow (stretch width xs (base + width * v))) v there w ≡ diagonal t v w
+      only : (w : ℕ) → including (inBytes (stretch width xs (base + width * v))) v there w ≡ diagonal t v w
       only w = ap₂ _||_ (row-is xs base v w l ∙ m .rows v w ∙ blank w) (ap (λ (b : Bool). b && eqb v w) e) ∙ and-comm (t v) (eqb v w)
 
   -- Column by column: w is put into the row of u, and no other row has it.
@@ -195,12 +190,7 @@ module _ (width : ℕ) where
 
   module _ (u w : ℕ) (r : Relation) (there : Bool) (h : (v : ℕ) → r v w ≡ there && eqb u v) where
     column-new : (x : ℕ) → (ltb x w && r u x) || (there && eqb w x) ≡ ltb x (w + 1) && r u x
-    column-new x =
-        by-equal x w
-        (λ e. ap₂ (λ (a b : Bool). (a && r u x) || (there && b)) (le-ltb x w (omega arith)) (eq-eqb w x (sym e))
-        ∙ sym (ap₂ _&&_ (lt-ltb x (w + 1) (omega arith)) (ap (r u) e ∙ h u ∙ ap (λ (b : Bool). there && b) (eq-eqb u u refl))))
-        (λ n. ap₂ (λ (a b : Bool). (a && r u x) || (there && b)) (below-next x w n) (ne-eqb w x (λ e. n (sym e)))
-        ∙ ap (λ (b : Bool). (ltb x (w + 1) && r u x) || b) (and-false there) ∙ or-false _)
+    column-new x = one-more (r u) w x (h u ∙ ap (λ (b : Bool). there && b) (eq-eqb u u refl) ∙ and-true there)
 
     column-old : (v x : ℕ) → (v ≡ u → ⊥) → ltb x w && r v x ≡ ltb x (w + 1) && r v x
     column-old v x n =
@@ -210,7 +200,7 @@ module _ (width : ℕ) where
         (λ m. ap (λ (a : Bool). a && r v x) (below-next x w m))
 
     pub columns-more : {old xs ys : List ℕ} {base : ℕ} → Made width old xs base (columns w r) → u < 8 * width → base + width * (8 * width) ≤ length old
-        → RowMade width xs ys (base + width * u) (including (inRow (stretch width xs (base + width * u))) w there) → Made width old ys base (columns (w + 1) r)
+        → RowMade width xs ys (base + width * u) (including (inBytes (stretch width xs (base + width * u))) w there) → Made width old ys base (columns (w + 1) r)
     unfolding columns including
     columns-more {old} {xs} {ys} {base} m l room k =
         let fits : base + width * (8 * width) ≤ length xs = omega (arith, m .others .same) in

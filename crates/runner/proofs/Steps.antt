@@ -19,14 +19,15 @@ use Rattle.meaning.specs.Operations.{LegalOperation, rows}
 use Rattle.meaning.specs.Records.{elementsIn}
 use Rattle.meaning.proofs.Tests.{never}
 use Rattle.meaning.proofs.Runs.{OnNodes, rows-nodes}
-use Rattle.runner.specs.declared.row.Mix.the-variants.{Either, Both as Shared, First}
+use Rattle.rows.specs.declared.Mix.the-variants.{Either, Both as Shared, First}
 use Rattle.runner.specs.Layout.{rowBytes, roomBytes}
-use Rattle.runner.specs.Rooms.{mixes, rowsAt, upTo, diagonal, mixture, Places, Made, Closable}
+use Rattle.rows.specs.Rows.{mixes, rowsAt, diagonal, mixture}
+use Rattle.runner.specs.Rooms.{upTo, Places, Made, Closable}
 use Rattle.runner.specs.Ready.{shown, Nodes}
 use Rattle.runner.specs.Steps.{roomsIn, Makeable}
 use Rattle.runner.proofs.Rooms.{upTo-all, made-as}
 use Rattle.runner.proofs.Elements.{node-there, there-node}
-use Rattle.runner.proofs.Cases.{by-order}
+use Rattle.rows.proofs.Cases.{by-order}
 use Rattle.runner.proofs.Layouts.{table-length, table-at}
 
 -- how many nodes there are, as the code counts them

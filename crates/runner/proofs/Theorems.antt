@@ -21,7 +21,7 @@ use Rattle.writing.proofs.Puts.{over-front, over-length}
 use Rattle.runner.specs.Layout.{roomBytes, workByte, overwritten}
 use Rattle.runner.specs.Run.{performed, runOf, Gives}
 use Rattle.runner.specs.Promises.{Roomy, Promised, Alike}
-use Rattle.runner.proofs.Answers.{tally-most}
+use Rattle.rows.proofs.Answers.{tally-most}
 use Rattle.runner.proofs.Layouts.{over-past, overwritten-past, overwritten-length, overwritten-taken, joined-is}
 use Rattle.runner.proofs.Outcomes.{leaves-all}
 use Rattle.runner.proofs.Files.{runs-as}

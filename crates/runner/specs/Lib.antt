@@ -4,4 +4,3 @@ pub mod Ready
 pub mod Steps
 pub mod Run
 pub mod Promises
-pub mod Glance

@@ -9,7 +9,7 @@ use Rattle.meaning.specs.declared.Operation.{Operation}
 use Rattle.meaning.specs.Relations.{Relation}
 use Rattle.meaning.specs.Operations.{LegalOperation}
 use Rattle.runner.specs.Layout.{rowBytes, roomBytes, table}
-use Rattle.runner.specs.Rooms.{rowsAt}
+use Rattle.rows.specs.Rows.{rowsAt}
 use Rattle.runner.specs.Ready.{shown, Nodes}
 
 -- the relations of the first n rooms of the work area

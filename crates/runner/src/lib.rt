@@ -1,7 +1,8 @@
 // The runner: the steps of a program, each made in its room of a lent work area, and the nodes that the last one selects.
 ghost use mathlib.Core.Path.{_≡_};
-ghost use Prim.Native.Nat.{_*_, _≤_};
+ghost use Prim.Native.Nat.{_*_, _≤_, _<_};
 ghost use lib.ListN.{length};
+ghost use Rattle.meaning.specs.Sets.{bit};
 ghost use Rattle.meaning.specs.Operations.{rows};
 ghost use Rattle.meaning.specs.Records.{operationsIn};
 ghost use Rattle.meaning.specs.declared.Reason.the-variants.{Room};
@@ -12,11 +13,8 @@ ghost use Rattle.runner.specs.Ready.{shown, Ready};
 ghost use Rattle.runner.specs.Steps.{roomsIn, Makeable};
 ghost use Rattle.runner.specs.Run.{performed, runOf, Gives};
 
-pub mod glance;
 mod room;
-mod row;
 
-use crate::row::Mix;
 use meaning::Answer;
 use meaning::Document;
 use meaning::Operation;
@@ -24,6 +22,15 @@ use meaning::Outcome;
 use meaning::Program;
 use meaning::Reason;
 use meaning::Refusal;
+use rows::Mix;
+
+// Whether a mask names a type.
+pub fn names(mask: u16, kind: u8) -> bool
+    requires { ⌜ kind < 16 ⌝ }
+    ensures { λ r. ⌜ r ≡ bit mask kind ⌝ }
+{
+    (mask >> kind) % 2 == 1
+}
 
 // The place of a step's room.
 fn place(step: u8) -> usize
@@ -91,9 +98,9 @@ pub fn run_over(document: Document, program: Program, out: &mut [u8], work: &mut
         return short();
     }
     perform(work, document, program);
-    let selected = row::read(work, steps - 2048);
-    row::list(selected, size, out);
-    writing::accepted(row::count(selected))
+    let selected = rows::read(work, steps - 2048);
+    rows::list(selected, size, out);
+    writing::accepted(rows::count(selected))
 }
 
 // Reads the graph, the tables and the program, and runs the program over the tables' elements.

@@ -33,9 +33,9 @@ use Rattle.graph.proofs.Held.{graph-turned, graph-held, graph-legal}
 use Rattle.runner.specs.Layout.{roomBytes, workByte, overwritten}
 use Rattle.runner.specs.Ready.{shown, Nodes, Ready}
 use Rattle.runner.specs.Run.{Ran, Gives, performed}
-use Rattle.runner.specs.Glance as glance
-use Rattle.runner.proofs.Answers.{tally-most}
-use Rattle.runner.proofs.GlanceHeld.{over-held, over-steps}
+use Rattle.glance.specs.Glance as glance
+use Rattle.rows.proofs.Answers.{tally-most}
+use Rattle.glance.proofs.Held.{over-held, over-steps}
 use Rattle.runner.proofs.Theorems.{performed-given}
 use Rattle.text.specs.Listing.{listing}
 use Rattle.text.specs.Listable.{Listable, Long, listingLimit}

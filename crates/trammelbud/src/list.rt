@@ -40,7 +40,7 @@ fn length(document: Document, program: Program, rel: &[u8]) -> usize
     ensures { λ r. ⌜ Long (textOf document program) listingLimit r ⌝ }
 {
     let mut nodes = [0u8; 128];
-    let count = runner::glance::answer(document, rel, program.count, &mut nodes);
+    let count = glance::answer(document, rel, program.count, &mut nodes);
     text::length(document, &nodes, place(count))
 }
 

@@ -1,8 +1,8 @@
 -- Every byte of the room is 0.
 use Prim.Native.Nat.{_-_, _≤_}
 use mathlib.Core.Path.{refl}
-use Rattle.runner.specs.Rooms.{Written}
-use Rattle.runner.proofs.Bytes.{written-none, written-more}
+use Rattle.rows.specs.Rows.{Written}
+use Rattle.rows.proofs.Bytes.{written-none, written-more}
 use borrow.Author.Needs.{needs}
 use Rattle.runner.proofs.Rooms.{cleared}
 use Rattle.runner.proofs.room.clear.Statement.{statement}

@@ -1,9 +1,9 @@
--- So many steps are in; a sweep that adds nothing shows that all are, and size steps always are.
+-- So many steps are in; a sweep that leaves it closed shows that all are, and size steps always are.
 use Prim.Native.Nat.{_-_}
 use borrow.Author.Tests.{not-true}
 use Rattle.runner.proofs.Rooms.{places-kept}
 use borrow.Author.Needs.{needs}
-use Rattle.runner.proofs.Closings.{Closes, closes-one, closes-more, closes-still, closes-all, closed-from}
+use Rattle.runner.proofs.Closings.{Closes, closes-one, closes-more, closes-closed, closes-all, closed-from}
 use Rattle.runner.proofs.room.closure.Statement.{statement}
 use Rattle.runner.proofs.room.closure.Tie as tie
 use Rattle.runner.proofs.room.closure.Reads as reads
@@ -34,7 +34,7 @@ returns c =
     let s = c .before .before .before in
     let l = s .before .before .before in
     let m = l .before .before .before in
-    closed-from 16 (m .before .before .before .pre) (m .mix .ensures) (closes-still 16 (l .loop .inv) (s .sweep .ensures) (not-true _ (c .if1 .taken)))
+    closed-from 16 (m .before .before .before .pre) (m .mix .ensures) (closes-closed 16 (l .loop .inv) (s .sweep .ensures) (not-true _ (c .if1 .taken)))
 
 add-steps : tie.Need-add-steps Inv-loop μ-loop
 add-steps c = search needs

@@ -2,7 +2,8 @@
 use Prim.Native.Nat.{_-_, _≤_}
 use lib.ListN.{length}
 use Rattle.meaning.specs.Relations.{has}
-use Rattle.runner.specs.Rooms.{rowsAt, upTo, Places, Made}
+use Rattle.rows.specs.Rows.{rowsAt}
+use Rattle.runner.specs.Rooms.{upTo, Places, Made}
 use Rattle.runner.proofs.Turns.{has-more}
 use borrow.Author.Needs.{needs}
 use Rattle.runner.proofs.Rooms.{places-kept, rows-none, rows-all, made-after-of}
@@ -11,9 +12,9 @@ use Rattle.runner.proofs.room.has.Tie as tie
 use Rattle.runner.proofs.room.has.Reads as reads
 use Rattle.runner.proofs.room.has.Lts as lts
 use Rattle.runner.proofs.room.clear.Reads as clear-reads
-use Rattle.runner.proofs.row.next.Reads as next-reads
-use Rattle.runner.proofs.row.put.Reads as put-reads
-use Rattle.runner.proofs.row.read.Reads as read-reads
+use Rattle.rows.proofs.next.Reads as next-reads
+use Rattle.rows.proofs.put.Reads as put-reads
+use Rattle.rows.proofs.read.Reads as read-reads
 
 abbrev Inv-loop : tie.InvT-loop
 Inv-loop work₀ base a size v₀ work v = (v ≤ size) × Places 16 (length work₀) base a a size × Made 16 work₀ work base (upTo v (has size (rowsAt 16 work₀ a)))

@@ -2,7 +2,8 @@
 use Prim.Native.Nat.{_-_, _≤_}
 use mathlib.Core.Path.{refl}
 use mathlib.Core.Bool.{true}
-use Rattle.runner.specs.Rooms.{upTo, diagonal, Made}
+use Rattle.rows.specs.Rows.{diagonal}
+use Rattle.runner.specs.Rooms.{upTo, Made}
 use borrow.Author.Needs.{needs}
 use Rattle.runner.proofs.Rooms.{rows-none, rows-all, diagonal-more, made-after}
 use Rattle.runner.proofs.room.itself.Statement.{statement}
@@ -10,7 +11,7 @@ use Rattle.runner.proofs.room.itself.Tie as tie
 use Rattle.runner.proofs.room.itself.Reads as reads
 use Rattle.runner.proofs.room.itself.Lts as lts
 use Rattle.runner.proofs.room.clear.Reads as clear-reads
-use Rattle.runner.proofs.row.put.Reads as put-reads
+use Rattle.rows.proofs.put.Reads as put-reads
 
 abbrev Inv-loop : tie.InvT-loop
 Inv-loop work₀ base size v₀ work v = (v ≤ size) × Made 16 work₀ work base (upTo v (diagonal (λ v. true)))

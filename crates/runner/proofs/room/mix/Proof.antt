@@ -1,7 +1,8 @@
 -- Each row made so far is its two rows, mixed.
 use Prim.Native.Nat.{_-_, _≤_}
 use lib.ListN.{length}
-use Rattle.runner.specs.Rooms.{rowsAt, upTo, mixture, Places, Made}
+use Rattle.rows.specs.Rows.{rowsAt, mixture}
+use Rattle.runner.specs.Rooms.{upTo, Places, Made}
 use Rattle.runner.proofs.Turns.{mix-more}
 use borrow.Author.Needs.{needs}
 use Rattle.runner.proofs.Rooms.{places-kept, rows-none, rows-all, made-after-of}
@@ -10,9 +11,9 @@ use Rattle.runner.proofs.room.mix.Tie as tie
 use Rattle.runner.proofs.room.mix.Reads as reads
 use Rattle.runner.proofs.room.mix.Lts as lts
 use Rattle.runner.proofs.room.clear.Reads as clear-reads
-use Rattle.runner.proofs.row.mixed.Reads as mixed-reads
-use Rattle.runner.proofs.row.read.Reads as read-reads
-use Rattle.runner.proofs.row.write.Reads as write-reads
+use Rattle.rows.proofs.mixed.Reads as mixed-reads
+use Rattle.rows.proofs.read.Reads as read-reads
+use Rattle.rows.proofs.write.Reads as write-reads
 
 abbrev Inv-loop : tie.InvT-loop
 Inv-loop work₀ base a b size how v₀ work v = (v ≤ size) × Places 16 (length work₀) base a b size × Made 16 work₀ work base (upTo v (mixture how (rowsAt 16 work₀ a) (rowsAt 16 work₀ b)))

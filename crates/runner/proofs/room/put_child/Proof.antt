@@ -5,9 +5,9 @@ use Rattle.runner.proofs.room.put_child.Statement.{statement}
 use Rattle.runner.proofs.room.put_child.Tie as tie
 use Rattle.runner.proofs.room.put_child.Reads as reads
 use Rattle.runner.proofs.room.put_child.Lts as lts
-use Rattle.runner.proofs.room.names.Reads as names-reads
+use Rattle.runner.proofs.names.Reads as names-reads
 use Rattle.runner.proofs.room.place.Reads as place-reads
-use Rattle.runner.proofs.row.put.Reads as put-reads
+use Rattle.rows.proofs.put.Reads as put-reads
 
 place-requires : tie.Need-place-requires
 place-requires c κs = search needs

@@ -1,51 +1,45 @@
--- The rows from v on have taken in.
-use Prim.Native.Nat.{_≤_}
-use mathlib.Core.Path.{_≡_}
-use native.Mathlib.Omega.{arith}
-use lib.ListN.{length}
-use Rattle.runner.specs.Rooms.{Places, Swept}
-use Rattle.runner.proofs.Rooms.{places-kept}
+-- The rows from v on have taken in, and whether one grew and one points back is known of them.
 use borrow.Author.Needs.{needs}
-use Rattle.runner.proofs.Closings.{sweep-none, sweep-more}
+use Rattle.runner.proofs.Closings.{Sweeps, sweeps-none, sweeps-places, sweeps-more, sweeps-all}
 use Rattle.runner.proofs.room.sweep.Statement.{statement}
 use Rattle.runner.proofs.room.sweep.Tie as tie
 use Rattle.runner.proofs.room.sweep.Reads as reads
 use Rattle.runner.proofs.room.sweep.Lts as lts
+use Rattle.runner.proofs.room.points_back.Reads as points-back-reads
 use Rattle.runner.proofs.room.take_in.Reads as take-in-reads
 
 abbrev Inv-loop : tie.InvT-loop
-Inv-loop work₀ base a size grew₀ v₀ work grew v = (v ≤ size) × Places 16 (length work₀) base a a size × Swept 16 size work₀ work base a v grew
+Inv-loop work₀ base a size grew₀ back₀ v₀ work grew back v = Sweeps 16 work₀ work base a size v grew back
 
 abbrev μ-loop : tie.MeasureT-loop
-μ-loop work₀ base a size grew₀ v₀ work grew v = v
+μ-loop work₀ base a size grew₀ back₀ v₀ work grew back v = v
 
 loop-holds : tie.Need-loop-holds Inv-loop μ-loop
-loop-holds c = (search needs, c .before .pre, sweep-none 16 _ _ _)
+loop-holds c = sweeps-none 16 (c .before .pre)
 
 sub-v : tie.Need-sub-v Inv-loop μ-loop
 sub-v c = search needs
 
 take-in-requires : tie.Need-take-in-requires Inv-loop μ-loop
-take-in-requires c κs =
-    let i = c .before in
-    let l = i .before .loop .inv in
-    (places-kept 16 (l .2 .others) (l .1), search needs)
+take-in-requires c κs = (sweeps-places 16 (c .before .before .loop .inv), search needs)
+
+points-back-requires : tie.Need-points-back-requires Inv-loop μ-loop
+points-back-requires c κs = search needs
 
 loop-less : tie.Need-loop-less Inv-loop μ-loop
 loop-less c = search needs
 
 loop-again : tie.Need-loop-again Inv-loop μ-loop
 loop-again c =
-    let k = c .before .before in
+    let k = c .before .before .before .before in
     let i = k .before .before in
-    let l = i .before .loop .inv in
-    (search needs, l .1, sweep-more 16 (l .1) (i .loop-test .taken) (l .0) (l .2) (k .take-in .ensures))
+    sweeps-more 16 (i .before .loop .inv) (i .loop-test .taken) (k .take-in .ensures) (c .points-back .ensures)
 
 same-length : tie.Need-same-length Inv-loop μ-loop
-same-length c = c .before .loop .inv .2 .others .same
+same-length c = c .before .loop .inv .others .same
 
 returns : tie.Need-returns Inv-loop μ-loop
-returns c = let e : c .before .loop .v ≡ 0 = omega arith in rw e at (c .before .loop .inv .2)
+returns c = sweeps-all 16 (c .before .loop .inv) (c .loop-test .left)
 
 pub sweep-spec : {M : Type 1} → statement M
 sweep-spec =
@@ -56,6 +50,7 @@ sweep-spec =
     loop-holds
     sub-v
     take-in-requires
+    points-back-requires
     loop-less
     loop-again
     same-length

@@ -5,11 +5,11 @@ use Rattle.runner.proofs.room.take_in.Statement.{statement}
 use Rattle.runner.proofs.room.take_in.Tie as tie
 use Rattle.runner.proofs.room.take_in.Reads as reads
 use Rattle.runner.proofs.room.take_in.Lts as lts
-use Rattle.runner.proofs.row.gather.Reads as gather-reads
-use Rattle.runner.proofs.row.mixed.Reads as mixed-reads
-use Rattle.runner.proofs.row.next.Reads as next-reads
-use Rattle.runner.proofs.row.read.Reads as read-reads
-use Rattle.runner.proofs.row.write.Reads as write-reads
+use Rattle.rows.proofs.gather.Reads as gather-reads
+use Rattle.rows.proofs.mixed.Reads as mixed-reads
+use Rattle.rows.proofs.next.Reads as next-reads
+use Rattle.rows.proofs.read.Reads as read-reads
+use Rattle.rows.proofs.write.Reads as write-reads
 
 mul-at : tie.Need-mul-at
 mul-at c = search needs

@@ -13,7 +13,7 @@ use Rattle.runner.proofs.room.text.Tie as tie
 use Rattle.runner.proofs.room.text.Reads as reads
 use Rattle.runner.proofs.room.text.Lts as lts
 use Rattle.runner.proofs.room.clear.Reads as clear-reads
-use Rattle.runner.proofs.row.put.Reads as put-reads
+use Rattle.rows.proofs.put.Reads as put-reads
 
 abbrev Inv-loop : tie.InvT-loop
 Inv-loop work₀ base number document v₀ work v = (1 ≤ v) × (v ≤ document .count + 1) × (base + 2048 ≤ length work₀) × Nodes document × Made 16 work₀ work base (upTo v (rows (shown document) [] (Text number)))

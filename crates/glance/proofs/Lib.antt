@@ -1,0 +1,10 @@
+pub mod Lists
+pub mod Known
+pub mod Steps
+pub mod Sets
+pub mod Rounds
+pub mod Operations
+pub mod Calls
+pub mod Lays
+pub mod Answers
+pub mod Held
