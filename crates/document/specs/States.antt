@@ -1,30 +1,26 @@
--- How the reader's records hold where reading stands: what its parts promise each other.
+-- How the reader holds where reading stands: what its parts promise each other.
+use Prim.Native.Nat.{ℕ, _≤_}
 use mathlib.Core.Path.{_≡_}
-use Rattle.meaning.specs.Records.{documentOf, elementsIn}
-use Rattle.fields.specs.declared.Field.{Field}
-use Rattle.fields.specs.declared.Field.the-variants.{Got, Refused}
-use Rattle.fields.specs.Read.{Read, got, refused}
-use Rattle.fields.specs.Outcomes.{valueOr}
+use mathlib.Core.List.{List}
+use lib.ListN.{length}
+use Rattle.meaning.specs.Limits.{elementLimit}
+use Rattle.meaning.specs.Records.{elementsIn}
+use Rattle.fields.specs.Kept.{documentIn}
+use Rattle.fields.specs.Read.{Read, beside}
 use Rattle.document.specs.declared.Standing.{Standing}
 use Rattle.document.specs.declared.Turn.{Turn}
 use Rattle.document.specs.Tre.{Open}
 
--- as the code holds it, with blank places past the elements
-unfoldable pub standingOf : Open → Standing
-standingOf o = record { document = documentOf (o .elements); inner = o .inner }
+-- what is open: the elements are the first that are kept
+unfoldable pub openIn : List ℕ → Standing → Open
+openIn kept st = record { elements = elementsIn (documentIn kept (st .count)); inner = st .inner }
 
--- what the code holds
-unfoldable pub openIn : Standing → Open
-openIn st = record { elements = elementsIn (st .document); inner = st .inner }
+-- there is a place for each element that a document may have, and no more are kept
+pub record Kept (kept : List ℕ) (st : Standing) : Type 0 where
+  pub long : length kept ≡ elementLimit
+  pub most : st .count ≤ elementLimit
 
--- no more is held than the elements
-abbrev pub Kept : Standing → Type 0
-Kept st = st ≡ standingOf (openIn st)
-
-unfoldable pub nextOf : Read Open → Field
-nextOf (got o at) = Got 0 (record { at = at })
-nextOf (refused r) = Refused r
-
--- after a token that was read from o on: where reading stands, which a refusal leaves, and where it goes on
-unfoldable pub turnOf : Open → Read Open → Turn
-turnOf o e = record { standing = standingOf (valueOr o e); next = nextOf e }
+-- e was read: it is what is open, or a part of it, beside where reading goes on, or the refusal was met
+pub record Answers {A : Type 0} (part : Open → A) (kept : List ℕ) (turn : Turn) (e : Read A) : Type 0 where
+  pub room : Kept kept (turn .standing)
+  pub right : beside (turn .next) (part (openIn kept (turn .standing))) ≡ e

@@ -1,20 +1,22 @@
 // The reader of document files: one loop over the tokens. It needs no stack, for the parent of the innermost open
-// element is in the record.
+// element is kept with the element.
 ghost use mathlib.Core.Path.{_≡_};
 ghost use mathlib.Core.List.{[]};
 ghost use Prim.Native.Nat.{_<_};
+ghost use lib.ListN.{length};
 ghost use Rattle.meaning.specs.Limits.{elementLimit};
 ghost use Rattle.meaning.specs.Graphs.{childKind};
 ghost use Rattle.meaning.specs.Documents.{node};
 ghost use Rattle.fields.specs.Outcomes.{documentRead};
-ghost use Rattle.document.specs.Tre.{pushed, opened, closed, token, documentFile};
-ghost use Rattle.document.specs.States.{standingOf, openIn, Kept, turnOf};
+ghost use Rattle.document.specs.Tre.{nothingOpen, pushed, opened, closed, token, tokens, documentFile};
+ghost use Rattle.document.specs.States.{openIn, Kept, Answers};
 use fields::Cursor;
 use fields::Field;
-use fields::blank;
-use fields::node_at;
+use fields::kept::BLANK;
+use fields::kept::document_in;
+use fields::kept::node_at;
+use fields::kept::packed;
 use fields::turned_away;
-use meaning::Document;
 use meaning::DocumentRead;
 use meaning::Element;
 use meaning::Graph;
@@ -24,9 +26,9 @@ use meaning::Reason;
 // Elements of a document.
 const LIMIT: usize = 127;
 
-// Where reading stands: the elements opened so far, and the innermost that is open.
+// Where reading stands: how many elements are kept so far, and the innermost that is open.
 struct Standing {
-    document: Document,
+    count: usize,
     inner: u8,
 }
 
@@ -48,45 +50,39 @@ impl Standing {
     }
 
     // Whether an element of that type may stand in the innermost.
-    fn takes(self, g: Graph, kind: u8) -> bool
-        ensures { λ r. ⌜ r ≡ childKind g (node (self .document .elements) (self .inner) .kind) kind ⌝ }
+    fn takes(self, kept: &[u32], g: Graph, kind: u8) -> bool
+        requires { ⌜ Kept (now kept) self ⌝ }
+        ensures { λ r. ⌜ r ≡ childKind g (node (openIn (now (kept .entry)) self .elements) (self .inner) .kind) kind ⌝ }
     {
-        let document = self.document;
-        graph::is_child(g, node_at(document, self.inner).kind, kind)
+        let inner = node_at(kept, self.count, self.inner);
+        graph::is_child(g, inner.kind, kind)
     }
 
     // The new element goes behind the last, and is the innermost.
-    fn push(self, kind: u8, text: u16) -> Standing
-        requires { ⌜ Kept self ⌝ }
-        requires { ⌜ self .document .count < elementLimit ⌝ }
-        ensures { λ r. ⌜ r ≡ standingOf (pushed (openIn self) kind text) ⌝ }
+    fn push(self, kept: &mut [u32], kind: u8, text: u16) -> Standing
+        requires { ⌜ Kept (now kept) self ⌝ }
+        requires { ⌜ self .count < elementLimit ⌝ }
+        ensures { λ r. ⌜ Kept (now (kept .exit)) r × (openIn (now (kept .exit)) r ≡ pushed (openIn (now (kept .entry)) self) kind text) ⌝ }
     {
-        let document = self.document;
-        let count = document.count;
+        let count = self.count;
         let last = count as u8;
-        let mut elements = document.elements;
-        elements[count] = Element {
+        kept[count] = packed(Element {
             parent: self.inner,
             kind,
             text,
-        };
-        let longer = Document {
-            count: count + 1,
-            elements,
-        };
+        });
         Standing {
-            document: longer,
+            count: count + 1,
             inner: last + 1,
         }
     }
 
     // After 01: the count, the type, the edge or root, then the text.
-    fn opened(self, s: &[u8], g: Graph, c: Cursor) -> Turn
-        requires { ⌜ Kept self ⌝ }
-        ensures { λ r. ⌜ r ≡ turnOf (openIn self) (opened elementLimit g (openIn self) (now (s .entry)) (c .at)) ⌝ }
+    fn opened(self, kept: &mut [u32], s: &[u8], g: Graph, c: Cursor) -> Turn
+        requires { ⌜ Kept (now kept) self ⌝ }
+        ensures { λ r. ⌜ Answers (λ o. o) (now (kept .exit)) r (opened elementLimit g (openIn (now (kept .entry)) self) (now (s .entry)) (c .at)) ⌝ }
     {
-        let document = self.document;
-        if LIMIT <= document.count {
+        if LIMIT <= self.count {
             return self.stopped(fields::refuse(Reason::Bound));
         }
         let typed = c.byte(s);
@@ -98,7 +94,7 @@ impl Standing {
             return self.stopped(fields::refuse(Reason::Kind));
         }
         let kind = t as u8;
-        if !self.takes(g, kind) {
+        if !self.takes(kept, g, kind) {
             return self.stopped(fields::refuse(Reason::Edge));
         }
         let said = after.word(s);
@@ -106,45 +102,65 @@ impl Standing {
             return self.stopped(said);
         };
         Turn {
-            standing: self.push(kind, text),
+            standing: self.push(kept, kind, text),
             next: Field::Got(0, next),
         }
     }
 
     // After 02, which no file begins with. The parent is the innermost again.
-    fn closed(self, c: Cursor) -> Turn
-        requires { ⌜ Kept self ⌝ }
-        ensures { λ r. ⌜ r ≡ turnOf (openIn self) (closed (openIn self) [] (c .at)) ⌝ }
+    fn closed(self, kept: &[u32], c: Cursor) -> Turn
+        requires { ⌜ Kept (now kept) self ⌝ }
+        ensures { λ r. ⌜ Answers (λ o. o) (now (kept .entry)) r (closed (openIn (now (kept .entry)) self) [] (c .at)) ⌝ }
     {
-        let document = self.document;
-        if document.count == 0 {
+        let count = self.count;
+        if count == 0 {
             return self.stopped(fields::refuse(Reason::Edge));
         }
+        let inner = node_at(kept, count, self.inner).parent;
         Turn {
-            standing: Standing {
-                document,
-                inner: node_at(document, self.inner).parent,
-            },
+            standing: Standing { count, inner },
             next: Field::Got(0, c),
         }
     }
 
-    fn token(self, s: &[u8], g: Graph, c: Cursor) -> Turn
-        requires { ⌜ Kept self ⌝ }
-        ensures { λ r. ⌜ r ≡ turnOf (openIn self) (token elementLimit g (openIn self) (now (s .entry)) (c .at)) ⌝ }
+    fn token(self, kept: &mut [u32], s: &[u8], g: Graph, c: Cursor) -> Turn
+        requires { ⌜ Kept (now kept) self ⌝ }
+        ensures { λ r. ⌜ Answers (λ o. o) (now (kept .exit)) r (token elementLimit g (openIn (now (kept .entry)) self) (now (s .entry)) (c .at)) ⌝ }
     {
         let coded = c.byte(s);
         let Field::Got(code, after) = coded else {
             return self.stopped(coded);
         };
         match code {
-            0x01 => self.opened(s, g, after),
-            0x02 => self.closed(after),
+            0x01 => self.opened(kept, s, g, after),
+            0x02 => self.closed(kept, after),
             _ => self.stopped(fields::refuse(Reason::Code)),
         }
     }
 }
 
+// The tokens, up to the close of element 1.
+fn read_tokens(kept: &mut [u32], s: &[u8], g: Graph, first: Cursor) -> Turn
+    requires { ⌜ length (now kept) ≡ elementLimit ⌝ }
+    ensures { λ r. ⌜ Answers (λ o. o .elements) (now (kept .exit)) r (tokens (length (now (s .entry))) elementLimit g nothingOpen (now (s .entry)) (first .at)) ⌝ }
+{
+    let mut standing = Standing { count: 0, inner: 0 };
+    let mut cursor = first;
+    loop {
+        let turn = standing.token(kept, s, g, cursor);
+        let next = turn.next;
+        let Field::Got(_, after) = next else {
+            return turn;
+        };
+        standing = turn.standing;
+        if standing.inner == 0 {
+            return turn;
+        }
+        cursor = after;
+    }
+}
+
+// The elements are kept in an array that is lent to the functions above: handed on by value, each call would copy them.
 pub fn read(s: &[u8], g: Graph) -> DocumentRead
     ensures { λ r. ⌜ r ≡ documentRead (documentFile elementLimit g (now (s .entry)) 0) ⌝ }
 {
@@ -152,30 +168,19 @@ pub fn read(s: &[u8], g: Graph) -> DocumentRead
     let Field::Got(_, first) = headed else {
         return turned_away(headed);
     };
-    let mut standing = Standing {
-        document: blank(),
-        inner: 0,
+    let mut kept = [BLANK; LIMIT];
+    let turn = read_tokens(&mut kept, s, g, first);
+    let next = turn.next;
+    let Field::Got(_, last) = next else {
+        return turned_away(next);
     };
-    let mut cursor = first;
-    loop {
-        let turn = standing.token(s, g, cursor);
-        let next = turn.next;
-        let Field::Got(_, after) = next else {
-            return turned_away(next);
-        };
-        standing = turn.standing;
-        cursor = after;
-        if standing.inner == 0 {
-            break;
-        }
-    }
-    let ended = cursor.end(s);
+    let ended = last.end(s);
     let Field::Got(_, _) = ended else {
         return turned_away(ended);
     };
-    let document = standing.document;
+    let standing = turn.standing;
     DocumentRead {
         outcome: Outcome::Accepted,
-        document,
+        document: document_in(&kept, standing.count),
     }
 }

@@ -15,7 +15,7 @@ use Rattle.meaning.specs.Limits.{elementLimit}
 use Rattle.meaning.specs.Documents.{documentNode}
 use Rattle.meaning.specs.Records.{documentOf}
 use Rattle.fields.specs.Outcomes.{outcomeOf, awayOf}
-use Rattle.fields.specs.Read.{Read, got, refused, readOf, passed, byte, word, mark, header, end}
+use Rattle.fields.specs.Read.{Read, got, refused, readOf, passed, beside, byte, word, mark, header, end}
 use Rattle.fields.specs.declared.Cursor.{Cursor}
 use Rattle.fields.specs.declared.Field.{Field}
 use Rattle.fields.specs.declared.Field.the-variants.{Got, Refused}
@@ -27,6 +27,14 @@ module _ {x : Field} {e : Read ℕ} (p : readOf x ≡ e) where
 
   pub handed : {r : Refusal} → x ≡ Refused r → e ≡ refused r
   handed q = sym p ∙ ap readOf q
+
+-- the same of what stands beside the answer
+module _ {A : Type 0} {x : Field} (a : A) {e : Read A} (p : beside x a ≡ e) where
+  pub beside-got : {v : ℕ} {c : Cursor} → x ≡ Got v c → e ≡ got a (c .at)
+  beside-got q = sym p ∙ ap (λ (f : Field). beside f a) q
+
+  pub beside-refused : {r : Refusal} → x ≡ Refused r → e ≡ refused r
+  beside-refused q = sym p ∙ ap (λ (f : Field). beside f a) q
 
 -- the same of a field that only has to be passed
 pub taken-passed : {x : Field} (e : Read (Unit {0})) {v : ℕ} {c : Cursor} → readOf x ≡ passed e → x ≡ Got v c → e ≡ got tt (c .at)

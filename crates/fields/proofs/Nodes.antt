@@ -11,7 +11,7 @@ use Rattle.meaning.specs.Limits.{elementLimit}
 use Rattle.meaning.specs.Documents.{node, documentNode}
 
 -- within a list it does not matter what stands past its end
-getD-within : {A : Type 0} (l : List A) (i : ℕ) (a b : A) → i < length l → getD l i a ≡ getD l i b
+pub getD-within : {A : Type 0} (l : List A) (i : ℕ) (a b : A) → i < length l → getD l i a ≡ getD l i b
 getD-within [] i a b h = absurd (not-suc-le-zero h)
 getD-within (x ∷ l) zero a b h = refl
 getD-within (x ∷ l) (suc i) a b h = getD-within l i a b (le-of-suc-le-suc h)

@@ -1,3 +1,4 @@
 pub mod Read
 pub mod Write
 pub mod Outcomes
+pub mod Kept

@@ -87,3 +87,8 @@ readOf (Refused r) = refused r
 abbrev pub passed : Read (Unit {0}) → Read ℕ
 passed (got u at) = got 0 at
 passed (refused r) = refused r
+
+-- what stands beside a field's answer was read, or the refusal was met
+abbrev pub beside : {A : Type 0} → Field → A → Read A
+beside (Got v c) a = got a (c .at)
+beside (Refused r) a = refused r

@@ -7,6 +7,9 @@ ghost use Rattle.meaning.specs.Documents.{node};
 ghost use Rattle.meaning.specs.Records.{documentOf};
 ghost use Rattle.fields.specs.Outcomes.{outcomeOf, awayOf};
 ghost use Rattle.fields.specs.Read.{readOf, passed, byte, word, mark, header, end};
+
+pub mod kept;
+
 use meaning::Document;
 use meaning::DocumentRead;
 use meaning::Element;
@@ -80,7 +83,7 @@ pub fn node_at(document: Document, v: u8) -> Element
 }
 
 // A document with no elements.
-pub fn blank() -> Document
+fn blank() -> Document
     ensures { λ r. ⌜ r ≡ documentOf [] ⌝ }
 {
     Document {

@@ -2,12 +2,11 @@
 use Prim.Native.Nat.{ℕ, zero, suc, _+_, _-_, _≤_, _<_}
 use mathlib.Core.Path.{_≡_, refl, sym, ap, _∙_}
 use mathlib.Core.Bool.{Bool, true, false, not, _&&_, _||_}
-use mathlib.Core.List.{List, [], map}
+use mathlib.Core.List.{List, []}
 use native.Mathlib.Omega.{arith}
 use native.Mathlib.Numerals.{add-one}
 use lib.Dec.{eqb}
-use lib.ListN.{length, getD, take, length-take, length-map, List·getD-map, List·getD-eq-default}
-use lib.Seq.{getD-take}
+use lib.ListN.{length, getD, length-take, length-map}
 use borrow.Author.Needs.{needs}
 use borrow.Author.Tests.{lt-ltb, le-ltb, le-leb, eq-eqb, ne-eqb, eqb-true, not-true, not-false}
 use Rattle.meaning.specs.declared.Graph.{Graph}
@@ -17,8 +16,10 @@ use Rattle.meaning.specs.declared.Reason.the-variants.{Number, Edge}
 use Rattle.meaning.specs.declared.Refusal.{Refusal}
 use Rattle.meaning.specs.Graphs.{childKind}
 use Rattle.meaning.specs.Documents.{isElement, above, below, documentNode, node, view, parentRule, edgeRule}
+use Rattle.meaning.specs.Records.{elementsIn}
 use Rattle.meaning.proofs.Tests.{and-in, and-left, and-right, fails}
 use Rattle.meaning.proofs.Sets.{below-suc}
+use Rattle.fields.specs.Kept.{elementIn, documentIn}
 use Rattle.fields.specs.Read.{Read, got, judge, readOf, passed}
 use Rattle.fields.specs.declared.Cursor.{Cursor}
 use Rattle.fields.specs.declared.Field.{Field}
@@ -26,8 +27,8 @@ use Rattle.fields.specs.declared.Field.the-variants.{Got, Refused}
 use Rattle.fields.proofs.Laws.{taken-passed, handed-passed}
 use Rattle.fields.proofs.Formats.{bind-out, judge-out}
 use Rattle.tables.specs.Edg.{elementJudged, elementsJudged}
-use Rattle.tables.specs.Kept.{elementIn, documentIn, ones, listed, Climbable}
-use Rattle.tables.proofs.Lists.{take-keeps, getD-there}
+use Rattle.tables.specs.Kept.{ones, Climbable}
+use Rattle.tables.proofs.Lists.{take-keeps}
 
 -- each number below n came once
 module _ (ts : List ℕ) where
@@ -53,44 +54,17 @@ module _ (ts : List ℕ) where
 
 pub ruleset ones-laws = (ones-none, ones-lack, ones-more, ones-end, needs)
 
--- node v of a record of elements, where n is v
-module _ (d : Document) where
-  pub node-document : (v : ℕ) {n : ℕ} → n ≡ v → n ≡ 0 → documentNode ≡ node (listed d) v
-  unfolding node
-  node-document zero e z = refl
-  node-document (suc i) e z = absurd (omega arith)
-
-  pub node-past : (v : ℕ) {n : ℕ} → n ≡ v → d .count < n → documentNode ≡ node (listed d) v
-  unfolding node listed
-  node-past zero e l = refl
-  node-past (suc i) e l = sym (List·getD-eq-default (take (d .count) (d .elements)) documentNode (omega (arith, length-take (d .count) (d .elements))))
-
-pub node-there : (kept : List ℕ) (total : ℕ) → Climbable (documentIn kept total) → (v : ℕ) {n : ℕ} → n ≡ v → (n ≡ 0 → ⊥) → n ≤ total → {e : Element} → e ≡ elementIn (getD kept (n - 1) 0)
-    → e ≡ node (listed (documentIn kept total)) v
-unfolding node listed
-node-there kept total climbable zero e z l same = absurd (z e)
-node-there kept total climbable (suc i) {n} e z l same =
-    let before : n - 1 ≡ i = omega arith in
-    let long = climbable .long in
-    let most = climbable .most in
-    same
-    ∙ sym (List·getD-map elementIn kept (n - 1) 0)
-    ∙ rw before (getD-there (map elementIn kept) i (elementIn 0) documentNode (omega arith) ∙ sym (getD-take total (map elementIn kept) i documentNode (omega arith)))
-
-pub node-place : (kept : List ℕ) (total : ℕ) → Climbable (documentIn kept total) → {n : ℕ} → (n ≡ 0 → ⊥) → n ≤ total → n - 1 < length kept
-node-place kept total climbable z l =
-    let most = climbable .most in
-    omega (arith, climbable .long, length-map kept elementIn)
-
-pub ruleset node-laws = (node-document, node-past, node-there, node-place, needs)
+-- there is a place for each element
+pub held-room : (kept : List ℕ) (total : ℕ) → Climbable (documentIn kept total) → total ≤ length kept
+held-room kept total climbable = let most = climbable .most in omega (arith, climbable .long, length-map kept elementIn)
 
 module _ (d : Document) (climbable : Climbable d) where
-  listed-long : length (listed d) ≡ d .count
-  unfolding listed
+  listed-long : length (elementsIn d) ≡ d .count
+  unfolding elementsIn
   listed-long = let long = climbable .long in let most = climbable .most in omega (arith, length-take (d .count) (d .elements))
 
-  listed-fall : (v : ℕ) → 0 < v → node (listed d) v .parent < v
-  unfolding node listed
+  listed-fall : (v : ℕ) → 0 < v → node (elementsIn d) v .parent < v
+  unfolding node elementsIn
   listed-fall zero h = absurd (omega arith)
   listed-fall (suc i) h = omega (arith, take-keeps (λ j e. e .parent ≤ j) (d .count) (d .elements) documentNode (climbable .falling) (λ j. omega arith) i)
 
@@ -107,21 +81,21 @@ pub record Climbing (d : Document) (b : Bool) (v at : ℕ) : Type 0 where
   pub inside : at ≤ d .count
   pub left : ℕ
   pub enough : at ≤ left
-  pub rest : b ≡ above (suc left) (view (listed d)) v at
+  pub rest : b ≡ above (suc left) (view (elementsIn d)) v at
 
-pub climb-start : (d : Document) (v w : ℕ) → Climbable d × (w ≤ d .count) → Climbing d (below (view (listed d)) v w) v w
+pub climb-start : (d : Document) (v w : ℕ) → Climbable d × (w ≤ d .count) → Climbing d (below (view (elementsIn d)) v w) v w
 unfolding below view
-climb-start d v w h = record { inside = h .1; left = length (listed d); enough = omega (arith, listed-long d (h .0)); rest = refl }
+climb-start d v w h = record { inside = h .1; left = length (elementsIn d); enough = omega (arith, listed-long d (h .0)); rest = refl }
 
 module _ {d : Document} {b : Bool} {v at : ℕ} (c : Climbing d b v at) where
   pub climb-end : at ≤ 0 → false ≡ b
   unfolding above isElement
   climb-end h = sym (c .rest ∙ simp (le-ltb 0 at h, and-false))
 
-  module _ (climbable : Climbable d) (p : 0 < at) {x : Element} (e : x ≡ node (listed d) at) where
-    step-up : b ≡ eqb (x .parent) v || above (c .left) (view (listed d)) v (x .parent)
+  module _ (climbable : Climbable d) (p : 0 < at) {x : Element} (e : x ≡ node (elementsIn d) at) where
+    step-up : b ≡ eqb (x .parent) v || above (c .left) (view (elementsIn d)) v (x .parent)
     unfolding above view
-    step-up = let inside = c .inside in c .rest ∙ simp (is-element (listed d) at p (omega (arith, listed-long d climbable)), ← e)
+    step-up = let inside = c .inside in c .rest ∙ simp (is-element (elementsIn d) at p (omega (arith, listed-long d climbable)), ← e)
 
     pub climb-found : x .parent ≡ v → true ≡ b
     climb-found q = sym (step-up ∙ simp (eq-eqb (x .parent) v q))
@@ -139,33 +113,33 @@ module _ {d : Document} {b : Bool} {v at : ℕ} (c : Climbing d b v at) where
           inside = omega arith;
           left = c .left - 1;
           enough = omega arith;
-          rest = step-up ∙ simp (ne-eqb (x .parent) v q) (ap (λ k. above k (view (listed d)) v (x .parent)) one-less);
+          rest = step-up ∙ simp (ne-eqb (x .parent) v q) (ap (λ k. above k (view (elementsIn d)) v (x .parent)) one-less);
         }
 
-pub ruleset climb-laws = (climb-start, climb-end, climb-found, climb-less, climb-again, needs)
+pub ruleset climb-laws = (held-room, climb-start, climb-end, climb-found, climb-less, climb-again, needs)
 
 -- the parent rule of element i, which is x
-module _ (d : Document) (i : ℕ) {x : Element} (e : x ≡ node (listed d) i) where
-  pub parent-first : i ≡ 1 → eqb (x .parent) 0 ≡ parentRule (view (listed d)) i
+module _ (d : Document) (i : ℕ) {x : Element} (e : x ≡ node (elementsIn d) i) where
+  pub parent-first : i ≡ 1 → eqb (x .parent) 0 ≡ parentRule (view (elementsIn d)) i
   unfolding parentRule view
   parent-first h = simp (eq-eqb i 1 h, ← e)
 
   module _ (later : i ≡ 1 → ⊥) where
-    pub parent-none : x .parent ≡ 0 → false ≡ parentRule (view (listed d)) i
+    pub parent-none : x .parent ≡ 0 → false ≡ parentRule (view (elementsIn d)) i
     unfolding parentRule view
     parent-none h = simp (ne-eqb i 1 later, ← e, h)
 
     module _ (some : x .parent ≡ 0 → ⊥) where
-      pub parent-before : x .parent ≡ i - 1 → true ≡ parentRule (view (listed d)) i
+      pub parent-before : x .parent ≡ i - 1 → true ≡ parentRule (view (elementsIn d)) i
       unfolding parentRule view
       parent-before h = simp (ne-eqb i 1 later, ← e, lt-ltb 0 (x .parent) (omega arith), eq-eqb (x .parent) (i - 1) h)
 
-      pub parent-above : {b : Bool} → (x .parent ≡ i - 1 → ⊥) → b ≡ below (view (listed d)) (x .parent) (i - 1) → b ≡ parentRule (view (listed d)) i
+      pub parent-above : {b : Bool} → (x .parent ≡ i - 1 → ⊥) → b ≡ below (view (elementsIn d)) (x .parent) (i - 1) → b ≡ parentRule (view (elementsIn d)) i
       unfolding parentRule view
       parent-above h q = q ∙ simp (ne-eqb i 1 later, ← e, lt-ltb 0 (x .parent) (omega arith), ne-eqb (x .parent) (i - 1) h)
 
-pub edge-kept : (g : Graph) (d : Document) (i : ℕ) {x y : Element} {b : Bool} → x ≡ node (listed d) i → y ≡ node (listed d) (x .parent)
-    → b ≡ childKind g (y .kind) (x .kind) → b ≡ edgeRule g (view (listed d)) i
+pub edge-kept : (g : Graph) (d : Document) (i : ℕ) {x y : Element} {b : Bool} → x ≡ node (elementsIn d) i → y ≡ node (elementsIn d) (x .parent)
+    → b ≡ childKind g (y .kind) (x .kind) → b ≡ edgeRule g (view (elementsIn d)) i
 unfolding edgeRule view
 edge-kept g d i p q h = h ∙ simp (← p, ← q)
 
@@ -184,7 +158,7 @@ module _ (g : Graph) (es : List Element) (i at : ℕ) {b : Bool} (p : b ≡ pare
     unfolding elementJudged
     element-kept k = simp (← p, not-false b f, ← q, not-false c k)
 
-pub ruleset element-laws = (parent-first, parent-none, parent-before, parent-above, edge-kept, element-misplaced, element-unjoined, element-kept, needs)
+pub ruleset element-laws = (held-room, parent-first, parent-none, parent-before, parent-above, edge-kept, element-misplaced, element-unjoined, element-kept, needs)
 
 judged-stays : (g : Graph) (es : List Element) (i : ℕ) (s : List ℕ) (at : ℕ) {u : Unit {0}} {n : ℕ} → elementJudged g es i s at ≡ got u n → at ≡ n
 unfolding elementJudged
@@ -196,9 +170,9 @@ judged-stays g es i s at h =
 pub record Judging (g : Graph) (d : Document) (w : Read ℕ) (at i : ℕ) : Type 0 where
   pub positive : 1 ≤ i
   pub most : i ≤ suc (d .count)
-  pub rest : w ≡ passed (elementsJudged g (listed d) i (suc (d .count) - i) [] at)
+  pub rest : w ≡ passed (elementsJudged g (elementsIn d) i (suc (d .count) - i) [] at)
 
-pub judging-start : (g : Graph) (d : Document) (at : ℕ) → Judging g d (passed (elementsJudged g (listed d) 1 (d .count) [] at)) at 1
+pub judging-start : (g : Graph) (d : Document) (at : ℕ) → Judging g d (passed (elementsJudged g (elementsIn d) 1 (d .count) [] at)) at 1
 judging-start g d at = let e : suc (d .count) - 1 ≡ d .count = omega arith in record { positive = omega arith; most = omega arith; rest = rw e }
 
 module _ {g : Graph} {d : Document} {w : Read ℕ} {i : ℕ} {end : Cursor} (j : Judging g d w (end .at) i) {n : ℕ} (e : n ≡ i) where
@@ -207,22 +181,22 @@ module _ {g : Graph} {d : Document} {w : Read ℕ} {i : ℕ} {end : Cursor} (j :
   judging-end h = let z : suc (d .count) - i ≡ 0 = omega arith in sym (rw z at (j .rest))
 
   module _ (h : n ≤ d .count) where
-    element : w ≡ passed (elementsJudged g (listed d) i (suc (d .count - i)) [] (end .at))
+    element : w ≡ passed (elementsJudged g (elementsIn d) i (suc (d .count - i)) [] (end .at))
     element = let z : suc (d .count) - i ≡ suc (d .count - i) = omega arith in rw z at (j .rest)
 
     pub judging-room : Climbable d → Climbable d × (1 ≤ i) × (i ≤ d .count)
     judging-room climbable = (climbable, j .positive, omega arith)
 
-    module _ {x : Field} (k : readOf x ≡ passed (elementJudged g (listed d) i [] (end .at))) where
+    module _ {x : Field} (k : readOf x ≡ passed (elementJudged g (elementsIn d) i [] (end .at))) where
       pub judging-refused : {r : Refusal} → x ≡ Refused r → readOf x ≡ w
       unfolding elementsJudged
-      judging-refused q = ap readOf q ∙ sym (element ∙ simp (handed-passed (elementJudged g (listed d) i [] (end .at)) k q))
+      judging-refused q = ap readOf q ∙ sym (element ∙ simp (handed-passed (elementJudged g (elementsIn d) i [] (end .at)) k q))
 
       pub judging-again : {v : ℕ} {c : Cursor} → x ≡ Got v c → Judging g d w (end .at) (i + 1)
       unfolding elementsJudged
       judging-again q =
-          let kept = taken-passed (elementJudged g (listed d) i [] (end .at)) k q in
+          let kept = taken-passed (elementJudged g (elementsIn d) i [] (end .at)) k q in
           let fewer : d .count - i ≡ suc (d .count) - suc i = omega arith in
-          rw add-one (record { positive = omega arith; most = omega arith; rest = element ∙ simp (kept, ← (judged-stays g (listed d) i [] (end .at) kept), fewer) })
+          rw add-one (record { positive = omega arith; most = omega arith; rest = element ∙ simp (kept, ← (judged-stays g (elementsIn d) i [] (end .at) kept), fewer) })
 
 pub ruleset judging-laws = (judging-start, judging-end, judging-room, judging-refused, judging-again, needs)

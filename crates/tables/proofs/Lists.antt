@@ -1,10 +1,8 @@
 -- Lists: what holds of all rows, and what holds at each place.
-use Prim.Native.Nat.{ℕ, zero, suc, _-_, _<_}
-use mathlib.Core.Path.{_≡_, refl, ap}
-use mathlib.Core.List.{List, [], _∷_, _++_, map}
-use native.Mathlib.Omega.{arith}
-use native.Mathlib.Nat.{sub-zero}
-use lib.ListN.{length, getD, take, drop, set, replicate}
+use Prim.Native.Nat.{ℕ, zero, suc}
+use mathlib.Core.Path.{_≡_, refl}
+use mathlib.Core.List.{List, [], _∷_, _++_}
+use lib.ListN.{getD, take, set, replicate}
 use Rattle.tables.specs.declared.Row.{Row}
 
 pub data All (P : Row → Type 0) : List Row → Type 0 where
@@ -27,11 +25,6 @@ pub all-with : {P Q R : Row → Type 0} {rs : List Row} → ((r : Row) → P r �
 all-with f all-none all-none = all-none
 all-with f (all-more {r} p ps) (all-more q qs) = all-more (f r p q) (all-with f ps qs)
 
-pub map-set : {A B : Type 0} (f : A → B) (l : List A) (i : ℕ) (v : A) → map f (set l i v) ≡ set (map f l) i (f v)
-map-set f [] i v = refl
-map-set f (x ∷ l) zero v = refl
-map-set f (x ∷ l) (suc i) v = ap (λ m. f x ∷ m) (map-set f l i v)
-
 -- what holds at each place, and of what is set there, holds after it
 pub set-keeps : {A : Type 0} (P : ℕ → A → Type 0) (l : List A) (i : ℕ) (v d : A) → ((j : ℕ) → P j (getD l j d)) → P i v → (j : ℕ) → P j (getD (set l i v) j d)
 set-keeps P [] i v d h p j = h j
@@ -51,13 +44,3 @@ pub same-anywhere : {A : Type 0} (x : A) (n i : ℕ) → getD (replicate n x) i 
 same-anywhere x zero i = refl
 same-anywhere x (suc n) zero = refl
 same-anywhere x (suc n) (suc i) = same-anywhere x n i
-
-pub getD-there : {A : Type 0} (l : List A) (i : ℕ) (x y : A) → i < length l → getD l i x ≡ getD l i y
-getD-there [] i x y h = absurd (omega arith)
-getD-there (a ∷ l) zero x y h = refl
-getD-there (a ∷ l) (suc i) x y h = getD-there l i x y (omega arith)
-
-pub drop-replicate : {A : Type 0} (n m : ℕ) (x : A) → drop n (replicate m x) ≡ replicate (m - n) x
-drop-replicate zero m x = simp sub-zero
-drop-replicate (suc n) zero x = let e : 0 - suc n ≡ 0 = omega arith in rw e
-drop-replicate (suc n) (suc m) x = let e : suc m - suc n ≡ m - n = omega arith in rw e (drop-replicate n m x)

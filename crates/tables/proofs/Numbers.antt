@@ -6,8 +6,8 @@ use mathlib.Core.List.{List, [], _∷_, _++_}
 use native.Mathlib.Omega.{arith}
 use native.Mathlib.Nat.{add-zero, zero-add, add-assoc}
 use lib.Dec.{eqb, ltb, leb}
-use lib.ListN.{length, getD, drop, set, replicate, length-set, length-take, length-replicate, take-append-drop}
-use lib.Seq.{getD-take, getD-set-same, getD-set-other, drop-set-lt}
+use lib.ListN.{length, getD, set, replicate, length-set, length-take, length-replicate}
+use lib.Seq.{getD-take, getD-set-same, getD-set-other}
 use borrow.Author.Tests.{le-leb, lt-leb, eq-eqb, ne-eqb, ltb-true, ltb-false, leb-true, leb-false, eqb-true, eqb-false}
 use Rattle.meaning.specs.declared.Element.{Element}
 use Rattle.meaning.specs.Documents.{documentNode}
@@ -17,7 +17,7 @@ use Rattle.fields.specs.Read.{pick}
 use Rattle.tables.specs.declared.Row.{Row}
 use Rattle.tables.specs.Edg.{times, eachOnce, placed, elementsOf}
 use Rattle.tables.specs.Kept.{Gathered, none, put, added, GoodRow, ones}
-use Rattle.tables.proofs.Lists.{All, all-none, all-more, all-map, all-with, set-keeps, take-keeps, same-anywhere, drop-replicate}
+use Rattle.tables.proofs.Lists.{All, all-none, all-more, all-map, all-with, set-keeps, take-keeps, same-anywhere}
 
 -- how often a number comes
 pub times-other : (m : ℕ) (r : Row) (rs : List Row) → (r .number ≡ m → ⊥) → times m (r ∷ rs) ≡ times m rs
@@ -168,25 +168,10 @@ placed-all es long once (all-more {r} {rs} good more) =
     (placed-other _ (r .number - 1) more none ∙ getD-set-same es (r .number - 1) (r .element) documentNode (omega arith))
     (placed-all _ (length-set es (r .number - 1) (r .element) ∙ long) (λ m. omega (arith, once m, times-tail m r rs)) more)
 
-placed-past : (n : ℕ) (es : List Element) {rs : List Row} → All (GoodRow n) rs → drop n (placed es rs) ≡ drop n es
-unfolding placed
-placed-past n es all-none = refl
-placed-past n es (all-more {r} good more) =
-    let positive = good .positive in
-    let most = good .most in
-    placed-past n _ more ∙ drop-set-lt n es (r .number - 1) (r .element) (omega arith)
-
 module _ (limit : ℕ) (rs : List Row) (room : length rs ≤ limit) where
   pub elements-long : length (elementsOf limit rs) ≡ length rs
   unfolding elementsOf
   elements-long = omega (arith, length-take (length rs) (placed (replicate limit documentNode) rs), placed-long (replicate limit documentNode) rs, length-replicate limit documentNode)
-
-  -- what stands past the elements is blank
-  pub elements-fill : All (GoodRow (length rs)) rs → placed (replicate limit documentNode) rs ≡ elementsOf limit rs ++ replicate (limit - length rs) documentNode
-  unfolding elementsOf
-  elements-fill good =
-      sym (take-append-drop (length rs) (placed (replicate limit documentNode) rs))
-      ∙ ap (λ l. elementsOf limit rs ++ l) (placed-past (length rs) (replicate limit documentNode) good ∙ drop-replicate (length rs) limit documentNode)
 
 -- what the reader keeps of rows
 pub added-elements : (c : Gathered) (rs : List Row) → added c rs .elements ≡ placed (c .elements) rs

@@ -1,5 +1,5 @@
 -- The file: one law for each return of the reader, from the header to the last element.
-use Prim.Native.Nat.{ℕ, zero, suc, _+_, _≤_}
+use Prim.Native.Nat.{ℕ, zero, suc, _+_}
 use mathlib.Core.Path.{_≡_, refl, sym, ap, _∙_}
 use mathlib.Core.Bool.{Bool, true, false, not}
 use mathlib.Core.List.{List, []}
@@ -18,22 +18,22 @@ use Rattle.meaning.specs.declared.Reason.the-variants.{Bound, Number, Edge}
 use Rattle.meaning.specs.declared.Refusal.{Refusal}
 use Rattle.meaning.specs.Limits.{elementLimit}
 use Rattle.meaning.specs.Documents.{documentNode, view, parentRule, edgeRule}
-use Rattle.meaning.specs.Records.{documentOf}
-use Rattle.fields.specs.Read.{Read, got, refused, bind, _>>_, judge, readOf, passed, byte, header, end}
+use Rattle.meaning.specs.Records.{documentOf, elementsIn}
+use Rattle.fields.specs.Read.{Read, got, refused, bind, _>>_, judge, readOf, passed, beside, byte, header, end}
 use Rattle.fields.specs.Outcomes.{outcomeOf, documentRead}
 use Rattle.fields.specs.declared.Cursor.{Cursor}
 use Rattle.fields.specs.declared.Field.{Field}
 use Rattle.fields.specs.declared.Field.the-variants.{Got, Refused}
-use Rattle.fields.proofs.Laws.{taken, handed, taken-passed, handed-passed}
+use Rattle.fields.proofs.Laws.{taken, handed, taken-passed, handed-passed, beside-got, beside-refused}
 use Rattle.fields.proofs.Formats.{bind-out, end-out}
 use Rattle.tables.specs.declared.Row.{Row}
 use Rattle.tables.specs.Edg.{tablesRead, rowsFile, times, eachOnce, placed, elementsOf, elementJudged, elementsJudged, whole, tablesFile}
-use Rattle.tables.specs.Kept.{beside, mapped, Gathered, none, added, Sound, GoodRow, Answers, ones, listed}
+use Rattle.tables.specs.Kept.{mapped, Gathered, none, added, GoodRow, Answers, ones}
 use Rattle.tables.proofs.Lists.{All, same-anywhere}
-use Rattle.tables.proofs.Readings.{got-same, mapped-refused, beside-got, beside-refused, turned-away}
+use Rattle.tables.proofs.Readings.{got-same, mapped-refused, turned-away}
 use Rattle.tables.proofs.Places.{none-sound, blank-none, place-laws}
 use Rattle.tables.proofs.Tables.{added-total, tables-out}
-use Rattle.tables.proofs.Numbers.{once-all, elements-long, elements-fill, added-elements, added-times, ones-once}
+use Rattle.tables.proofs.Numbers.{added-elements, added-times, ones-once}
 
 -- header, k and the tables
 module _ (g : Graph) (s : List ℕ) {c : Gathered} (n : c ≡ none) {x : Field} (p : readOf x ≡ passed (header 0x45 0x44 0x47 s 0)) where
@@ -126,36 +126,24 @@ rows-good g s h =
 -- what is kept of rows
 record Keeps (c : Gathered) (rs : List Row) : Type 0 where
   count : c .total ≡ length rs
-  room : length rs ≤ elementLimit
-  good : All (GoodRow elementLimit) rs
   elements : c .elements ≡ placed (replicate elementLimit documentNode) rs
   once : ones (c .total) (c .times) ≡ eachOnce (length rs) rs
 
-keeps-rows : {c : Gathered} {rs : List Row} → Sound c → All (GoodRow elementLimit) rs → added none rs ≡ c → Keeps c rs
+keeps-rows : {c : Gathered} {rs : List Row} → All (GoodRow elementLimit) rs → added none rs ≡ c → Keeps c rs
 unfolding none
-keeps-rows {c} {rs} sound good e =
+keeps-rows {c} {rs} good e =
     let count : c .total ≡ length rs = rw e at (added-total none rs ∙ zero-add (length rs)) in
     let came : (i : ℕ) → getD (added none rs .times) i 0 ≡ times (suc i) rs =
     λ i. added-times none good refl i ∙ ap (λ n. n + times (suc i) rs) (same-anywhere {A = ℕ} 0 elementLimit i) ∙ zero-add (times (suc i) rs) in
     record {
       count = count;
-      room = omega (arith, sound .total-most);
-      good = good;
       elements = rw e at (added-elements none rs);
       once = rw count (ones-once (c .times) rs (rw e at came) (length rs));
     }
 
-module _ {c : Gathered} {rs : List Row} (k : Keeps c rs) where
-  keeps-listed : listed (record { count = c .total; elements = c .elements }) ≡ elementsOf elementLimit rs
-  unfolding listed elementsOf
-  keeps-listed = rw (k .elements, k .count)
-
-  keeps-document : eachOnce (length rs) rs ≡ true → _≡_ {A = Document} (record { count = c .total; elements = c .elements }) (documentOf (elementsOf elementLimit rs))
-  unfolding documentOf
-  keeps-document h =
-      let fill = elements-fill elementLimit rs (k .room) (once-all (k .good) h) in
-      let long = elements-long elementLimit rs (k .room) in
-      rw (k .elements ∙ fill, k .count, long)
+keeps-listed : {c : Gathered} {rs : List Row} → Keeps c rs → elementsIn (record { count = c .total; elements = c .elements }) ≡ elementsOf elementLimit rs
+unfolding elementsIn elementsOf
+keeps-listed k = rw (k .elements, k .count)
 
 module _ (g : Graph) (s : List ℕ) where
   -- a field turned the file away
@@ -175,7 +163,7 @@ module _ (g : Graph) (s : List ℕ) where
       found =
           let (rs, n, i, j) = bind-out (rowsFile elementLimit g s 0) _ (beside-got c (t .right) q) in
           let (kept, next) = got-same j in
-          (rs, rw next at i, keeps-rows (t .sound) (rows-good g s i) kept)
+          (rs, rw next at i, keeps-rows (rows-good g s i) kept)
 
       module _ {f : Field} (h : readOf f ≡ passed (end s (last .at))) where
         pub read-extra : {y : DocumentRead} {r : Refusal} → y ≡ record { outcome = outcomeOf (readOf f); document = documentOf [] } → f ≡ Refused r
@@ -192,7 +180,7 @@ module _ (g : Graph) (s : List ℕ) where
           unfolding tablesFile whole
           read-repeated i p l = let (rs, e, keeps) = found in away i l (simp (e, ended, ← (keeps .once), ← o, not-true b p))
 
-          module _ (p : not b ≡ false) (j : Field) (w : readOf j ≡ passed (elementsJudged g (listed (record { count = c .total; elements = c .elements })) 1 (c .total) [] (last .at))) where
+          module _ (p : not b ≡ false) (j : Field) (w : readOf j ≡ passed (elementsJudged g (elementsIn (record { count = c .total; elements = c .elements })) 1 (c .total) [] (last .at))) where
             judged : (rs : List Row) → Keeps c rs → readOf j ≡ passed (elementsJudged g (elementsOf elementLimit rs) 1 (length rs) s (last .at))
             judged rs keeps = w ∙ rw (keeps-listed keeps, keeps .count, ← (judged-anywhere g (elementsOf elementLimit rs) s 1 (length rs) (last .at)))
 
@@ -207,13 +195,13 @@ module _ (g : Graph) (s : List ℕ) where
                 let stop = handed-passed (elementsJudged g (elementsOf elementLimit rs) 1 (length rs) s (last .at)) (judged rs keeps) l in
                 away i l (simp (e, ended, once rs keeps, stop))
 
-            pub read-accepted : {d : Document} {n : ℕ} {past : Cursor} → j ≡ Got n past → d ≡ record { count = c .total; elements = c .elements }
+            pub read-accepted : {d : Document} {n : ℕ} {past : Cursor} → j ≡ Got n past → d ≡ documentOf (elementsIn (record { count = c .total; elements = c .elements }))
                 → _≡_ {A = DocumentRead} (record { outcome = Accepted; document = d }) (documentRead (tablesFile elementLimit g s 0))
             unfolding tablesFile whole
             read-accepted {past = past} l same =
                 let (rs, e, keeps) = found in
                 let passes = taken-passed (elementsJudged g (elementsOf elementLimit rs) 1 (length rs) s (last .at)) (judged rs keeps) l in
                 let file : tablesFile elementLimit g s 0 ≡ got (elementsOf elementLimit rs) (past .at) = simp (e, ended, once rs keeps, passes) in
-                rw (file, same ∙ keeps-document keeps (once rs keeps))
+                rw (file, same ∙ ap documentOf (keeps-listed keeps))
 
 pub ruleset read-laws = (place-laws, blank-none, read-refused, read-extra, read-repeated, read-misjudged, read-accepted, needs)

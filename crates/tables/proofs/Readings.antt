@@ -1,13 +1,12 @@
--- Readings: what a value beside the answer of a field says of the reading.
+-- Readings: what one that was got or refused says of its parts.
 use Prim.Native.Nat.{ℕ}
 use mathlib.Core.Path.{_≡_, sym, ap, _∙_}
 use native.Mathlib.Omega.{arith}
 use Rattle.meaning.specs.declared.Refusal.{Refusal}
-use Rattle.fields.specs.Read.{Read, got, refused}
-use Rattle.fields.specs.declared.Cursor.{Cursor}
+use Rattle.fields.specs.Read.{Read, got, refused, beside}
 use Rattle.fields.specs.declared.Field.{Field}
-use Rattle.fields.specs.declared.Field.the-variants.{Got, Refused}
-use Rattle.tables.specs.Kept.{beside, mapped, Gathered, Sound, Answers}
+use Rattle.fields.specs.declared.Field.the-variants.{Refused}
+use Rattle.tables.specs.Kept.{mapped, Gathered, Sound, Answers}
 
 pub got-same : {A : Type 0} {a b : A} {n m : ℕ} → got a n ≡ got b m → (a ≡ b) × (n ≡ m)
 got-same h = (cc, cc)
@@ -16,13 +15,6 @@ pub mapped-refused : {A B : Type 0} (f : A → B) (e : Read A) {r : Refusal} →
 unfolding mapped
 mapped-refused f (got a n) h = let z : _≡_ {A = ℕ} 0 1 = cc in absurd (omega arith)
 mapped-refused f (refused q) h = cc
-
-module _ {A : Type 0} {x : Field} (a : A) {e : Read A} (h : beside x a ≡ e) where
-  pub beside-got : {v : ℕ} {c : Cursor} → x ≡ Got v c → e ≡ got a (c .at)
-  beside-got q = sym h ∙ ap (λ (f : Field). beside f a) q
-
-  pub beside-refused : {r : Refusal} → x ≡ Refused r → e ≡ refused r
-  beside-refused q = sym h ∙ ap (λ (f : Field). beside f a) q
 
 pub turned-away : {x : Field} {c : Gathered} {w : Read Gathered} {r : Refusal} → Sound c → x ≡ Refused r → w ≡ refused r → Answers x c w
 turned-away {c = c} sound q h = record { sound = sound; right = ap (λ (f : Field). beside f c) q ∙ sym h }

@@ -15,7 +15,7 @@ use Rattle.meaning.specs.declared.Reason.the-variants.{Ended, Number}
 use Rattle.meaning.specs.declared.Refusal.{Refusal}
 use Rattle.meaning.specs.Limits.{elementLimit}
 use Rattle.meaning.proofs.Tests.{and-left, and-right}
-use Rattle.fields.specs.Read.{Read, got, refused, _>>_, give, pick, judge, readOf, byte, word}
+use Rattle.fields.specs.Read.{Read, got, refused, _>>_, give, pick, judge, readOf, beside, byte, word}
 use Rattle.fields.specs.declared.Cursor.{Cursor}
 use Rattle.fields.specs.declared.Field.{Field}
 use Rattle.fields.specs.declared.Field.the-variants.{Got, Refused}
@@ -23,7 +23,7 @@ use Rattle.fields.proofs.Laws.{taken, handed}
 use Rattle.fields.proofs.Formats.{bind-out, pick-out}
 use Rattle.tables.specs.declared.Row.{Row}
 use Rattle.tables.specs.Edg.{rowRule, rowRead, rowsRead}
-use Rattle.tables.specs.Kept.{beside, GoodRow}
+use Rattle.tables.specs.Kept.{GoodRow}
 use Rattle.tables.proofs.Lists.{All, all-none, all-more}
 use Rattle.tables.proofs.Readings.{got-same}
 

@@ -13,18 +13,18 @@ use Rattle.meaning.specs.declared.Reason.the-variants.{Ended, Bound}
 use Rattle.meaning.specs.declared.Refusal.{Refusal}
 use Rattle.meaning.specs.Limits.{elementLimit}
 use Rattle.meaning.specs.Documents.{documentNode}
-use Rattle.fields.specs.Read.{Read, got, refused, bind, judge, readOf, byte}
+use Rattle.fields.specs.Read.{Read, got, refused, bind, judge, readOf, beside, byte}
 use Rattle.fields.specs.declared.Cursor.{Cursor}
 use Rattle.fields.specs.declared.Field.{Field}
 use Rattle.fields.specs.declared.Field.the-variants.{Got, Refused}
-use Rattle.fields.proofs.Laws.{taken, handed}
+use Rattle.fields.proofs.Laws.{taken, handed, beside-got, beside-refused}
 use Rattle.fields.proofs.Formats.{bind-out, pick-out}
 use Rattle.tables.specs.declared.Row.{Row}
 use Rattle.tables.specs.declared.RowRead.{RowRead}
 use Rattle.tables.specs.Edg.{rowRead, rowsRead, tablesRead}
-use Rattle.tables.specs.Kept.{beside, mapped, Gathered, none, put, added, Sound, GoodRow, Answers}
+use Rattle.tables.specs.Kept.{mapped, Gathered, none, put, added, Sound, GoodRow, Answers}
 use Rattle.tables.proofs.Lists.{All, all-none, all-append, set-keeps}
-use Rattle.tables.proofs.Readings.{got-same, mapped-refused, beside-got, beside-refused, turned-away}
+use Rattle.tables.proofs.Readings.{got-same, mapped-refused, turned-away}
 use Rattle.tables.proofs.Places.{none-sound, place-laws}
 use Rattle.tables.proofs.Rows.{row-out, rows-out}
 use Rattle.tables.proofs.Stretch.{stretch-got, stretch-refused}

@@ -1,23 +1,18 @@
 -- What the reader keeps of the rows so far, and how its functions' answers say what was read: for contracts inside this crate.
-use Prim.Native.Nat.{ℕ, zero, suc, _+_, _-_, _/_, _%_, _≤_, _<_}
+use Prim.Native.Nat.{ℕ, zero, suc, _+_, _-_, _≤_, _<_}
 use mathlib.Core.Path.{_≡_}
 use mathlib.Core.Bool.{Bool, true, _&&_}
 use mathlib.Core.List.{List, [], _∷_, map}
 use lib.Dec.{eqb}
-use lib.ListN.{length, getD, take, set, replicate}
+use lib.ListN.{length, getD, set, replicate}
 use Rattle.meaning.specs.declared.Document.{Document}
 use Rattle.meaning.specs.declared.Element.{Element}
 use Rattle.meaning.specs.Limits.{elementLimit}
 use Rattle.meaning.specs.Documents.{documentNode}
-use Rattle.fields.specs.Read.{Read, got, refused, bind}
+use Rattle.fields.specs.Kept.{elementIn}
+use Rattle.fields.specs.Read.{Read, got, bind, beside}
 use Rattle.fields.specs.declared.Field.{Field}
-use Rattle.fields.specs.declared.Field.the-variants.{Got, Refused}
 use Rattle.tables.specs.declared.Row.{Row}
-
--- what stands beside a field's answer was read, or the refusal was met
-abbrev pub beside : {A : Type 0} → Field → A → Read A
-beside (Got v c) a = got a (c .at)
-beside (Refused r) a = refused r
 
 unfoldable pub mapped : {A B : Type 0} → (A → B) → Read A → Read B
 mapped f e = bind e (λ a at. got (f a) at)
@@ -28,16 +23,9 @@ pub record Gathered : Type 0 where
   pub times : List ℕ
   pub total : ℕ
 
--- an element in 32 bits: parent, type and text number, from the highest bits down
-unfoldable pub elementIn : ℕ → Element
-elementIn n = record { parent = n / 16777216; kind = n / 65536 % 256; text = n % 65536 }
-
 -- what is kept of the rows in the places that are lent for it
 abbrev pub gatheredIn : List ℕ → List ℕ → ℕ → Gathered
 gatheredIn kept times total = record { elements = map elementIn kept; times = times; total = total }
-
-abbrev pub documentIn : List ℕ → ℕ → Document
-documentIn kept total = record { count = total; elements = map elementIn kept }
 
 unfoldable pub none : Gathered
 none = record { elements = replicate elementLimit documentNode; times = replicate elementLimit 0; total = 0 }
@@ -77,9 +65,6 @@ pub record Answers (next : Field) (c : Gathered) (e : Read Gathered) : Type 0 wh
 unfoldable pub ones : ℕ → List ℕ → Bool
 ones zero ts = true
 ones (suc n) ts = ones n ts && eqb (getD ts n 0) 1
-
-unfoldable pub listed : Document → List Element
-listed d = take (d .count) (d .elements)
 
 pub record Climbable (d : Document) : Type 0 where
   pub long : length (d .elements) ≡ elementLimit

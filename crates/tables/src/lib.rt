@@ -4,16 +4,21 @@ ghost use mathlib.Core.List.{[]};
 ghost use Prim.Native.Nat.{_+_, _*_, _-_, _≤_, _<_, min};
 ghost use lib.ListN.{length};
 ghost use Rattle.meaning.specs.Limits.{elementLimit};
-ghost use Rattle.meaning.specs.Documents.{view, node, below, parentRule, edgeRule};
-ghost use Rattle.fields.specs.Read.{readOf, passed};
+ghost use Rattle.meaning.specs.Documents.{view, below, parentRule, edgeRule};
+ghost use Rattle.meaning.specs.Records.{elementsIn};
+ghost use Rattle.fields.specs.Read.{readOf, passed, beside};
+ghost use Rattle.fields.specs.Kept.{documentIn};
 ghost use Rattle.fields.specs.Outcomes.{documentRead};
 ghost use Rattle.tables.specs.Edg.{rowRule, rowRead, rowsRead, tablesRead, rowsFile, elementJudged, elementsJudged, tablesFile};
-ghost use Rattle.tables.specs.Kept.{beside, mapped, elementIn, gatheredIn, documentIn, none, put, added, Sound, GoodRow, Answers, ones, listed, Climbable};
+ghost use Rattle.tables.specs.Kept.{mapped, gatheredIn, none, put, added, Sound, GoodRow, Answers, ones, Climbable};
 use fields::Cursor;
 use fields::DOCUMENT_NODE;
 use fields::Field;
+use fields::kept::BLANK;
+use fields::kept::document_in;
+use fields::kept::node_at;
+use fields::kept::packed;
 use fields::turned_away;
-use meaning::Document;
 use meaning::DocumentRead;
 use meaning::Element;
 use meaning::Graph;
@@ -27,9 +32,6 @@ pub struct Row {
     pub number: u16,
     pub element: Element,
 }
-
-// The document node, packed.
-const BLANK: u32 = 1048576;
 
 const NO_ROW: Row = Row {
     number: 0,
@@ -105,29 +107,6 @@ fn read_row(part: &[u8], cursor: Cursor, kind: u8, before: u16) -> RowRead
                 text,
             },
         },
-    }
-}
-
-fn long(n: u8) -> u32
-    ensures { λ r. ⌜ r ≡ n ⌝ }
-{
-    n as u32
-}
-
-// An element in 32 bits, so that a slice of numbers holds elements.
-fn packed(element: Element) -> u32
-    ensures { λ r. ⌜ elementIn r ≡ element ⌝ }
-{
-    (long(element.parent) * 256 + long(element.kind)) * 65536 + element.text as u32
-}
-
-fn unpacked(n: u32) -> Element
-    ensures { λ r. ⌜ r ≡ elementIn n ⌝ }
-{
-    Element {
-        parent: (n / 16777216) as u8,
-        kind: (n / 65536 % 256) as u8,
-        text: (n % 65536) as u16,
     }
 }
 
@@ -265,43 +244,10 @@ fn read_rows(s: &[u8], g: Graph, kept: &mut [u32], times: &mut [u8]) -> TotalRea
     read
 }
 
-// The elements that are kept.
-fn document_in(kept: &[u32], total: usize) -> Document
-    requires { ⌜ length (now kept) ≡ elementLimit ⌝ }
-    ensures { λ r. ⌜ r ≡ documentIn (now (kept .entry)) total ⌝ }
-{
-    let mut elements = [DOCUMENT_NODE; 127];
-    let mut i: usize = 0;
-    while i < LIMIT {
-        let element = unpacked(kept[i]);
-        elements[i] = element;
-        i += 1;
-    }
-    Document {
-        count: total,
-        elements,
-    }
-}
-
-fn node_at(kept: &[u32], total: usize, v: u8) -> Element
-    requires { ⌜ Climbable (documentIn (now kept) total) ⌝ }
-    ensures { λ r. ⌜ r ≡ node (listed (documentIn (now (kept .entry)) total)) v ⌝ }
-{
-    let number = place(v);
-    if number == 0 {
-        return DOCUMENT_NODE;
-    }
-    if total < number {
-        return DOCUMENT_NODE;
-    }
-    let i = number - 1;
-    unpacked(kept[i])
-}
-
 // Whether v is met on the way up from w.
 fn is_ancestor(kept: &[u32], total: usize, v: u8, w: u8) -> bool
     requires { ⌜ Climbable (documentIn (now kept) total) × (w ≤ total) ⌝ }
-    ensures { λ r. ⌜ r ≡ below (view (listed (documentIn (now (kept .entry)) total))) v w ⌝ }
+    ensures { λ r. ⌜ r ≡ below (view (elementsIn (documentIn (now (kept .entry)) total))) v w ⌝ }
 {
     let mut node = w;
     while node > 0 {
@@ -316,7 +262,7 @@ fn is_ancestor(kept: &[u32], total: usize, v: u8, w: u8) -> bool
 
 fn keeps_parent_rule(kept: &[u32], total: usize, i: u8) -> bool
     requires { ⌜ Climbable (documentIn (now kept) total) × (1 ≤ i) × (i ≤ total) ⌝ }
-    ensures { λ r. ⌜ r ≡ parentRule (view (listed (documentIn (now (kept .entry)) total))) i ⌝ }
+    ensures { λ r. ⌜ r ≡ parentRule (view (elementsIn (documentIn (now (kept .entry)) total))) i ⌝ }
 {
     let parent = node_at(kept, total, i).parent;
     if i == 1 {
@@ -334,7 +280,7 @@ fn keeps_parent_rule(kept: &[u32], total: usize, i: u8) -> bool
 
 fn keeps_edge_rule(g: Graph, kept: &[u32], total: usize, i: u8) -> bool
     requires { ⌜ Climbable (documentIn (now kept) total) ⌝ }
-    ensures { λ r. ⌜ r ≡ edgeRule g (view (listed (documentIn (now (kept .entry)) total))) i ⌝ }
+    ensures { λ r. ⌜ r ≡ edgeRule g (view (elementsIn (documentIn (now (kept .entry)) total))) i ⌝ }
 {
     let element = node_at(kept, total, i);
     let parent = node_at(kept, total, element.parent);
@@ -344,7 +290,7 @@ fn keeps_edge_rule(g: Graph, kept: &[u32], total: usize, i: u8) -> bool
 // The file has ended: nothing is read any more, and the cursor stays.
 fn judge_element(g: Graph, kept: &[u32], total: usize, i: u8, end: Cursor) -> Field
     requires { ⌜ Climbable (documentIn (now kept) total) × (1 ≤ i) × (i ≤ total) ⌝ }
-    ensures { λ r. ⌜ readOf r ≡ passed (elementJudged g (listed (documentIn (now (kept .entry)) total)) i [] (end .at)) ⌝ }
+    ensures { λ r. ⌜ readOf r ≡ passed (elementJudged g (elementsIn (documentIn (now (kept .entry)) total)) i [] (end .at)) ⌝ }
 {
     if !keeps_parent_rule(kept, total, i) {
         return fields::refuse(Reason::Number);
@@ -357,7 +303,7 @@ fn judge_element(g: Graph, kept: &[u32], total: usize, i: u8, end: Cursor) -> Fi
 
 fn judge_elements(g: Graph, kept: &[u32], total: usize, end: Cursor) -> Field
     requires { ⌜ Climbable (documentIn (now kept) total) ⌝ }
-    ensures { λ r. ⌜ readOf r ≡ passed (elementsJudged g (listed (documentIn (now (kept .entry)) total)) 1 total [] (end .at)) ⌝ }
+    ensures { λ r. ⌜ readOf r ≡ passed (elementsJudged g (elementsIn (documentIn (now (kept .entry)) total)) 1 total [] (end .at)) ⌝ }
 {
     let mut i: u8 = 1;
     while place(i) <= total {

@@ -51,6 +51,9 @@ refuse-requires-3 c κs = search laws
 stopped-requires-4 : tie.Need-stopped-requires-4
 stopped-requires-4 c κs = search laws
 
+same-length : tie.Need-same-length
+same-length c = search laws
+
 returns-4 : tie.Need-returns-4
 returns-4 c = search laws
 
@@ -66,11 +69,17 @@ enum-told-2 c = search laws
 stopped-requires-5 : tie.Need-stopped-requires-5
 stopped-requires-5 c κs = search laws
 
+same-length-2 : tie.Need-same-length-2
+same-length-2 c = search laws
+
 returns-5 : tie.Need-returns-5
 returns-5 c = search laws
 
 push-requires : tie.Need-push-requires
 push-requires c κs = search laws
+
+same-length-3 : tie.Need-same-length-3
+same-length-3 c = search laws
 
 returns-6 : tie.Need-returns-6
 returns-6 c = search laws
@@ -95,11 +104,14 @@ opened-spec =
     takes-requires
     refuse-requires-3
     stopped-requires-4
+    same-length
     returns-4
     word-requires
     enum-known-said
     enum-told-2
     stopped-requires-5
+    same-length-2
     returns-5
     push-requires
+    same-length-3
     returns-6)

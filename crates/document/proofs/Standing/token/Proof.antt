@@ -30,8 +30,14 @@ refuse-requires c κs = search laws
 stopped-requires-2 : tie.Need-stopped-requires-2
 stopped-requires-2 c κs = search laws
 
+same-length : tie.Need-same-length
+same-length c = search laws
+
 returns-2 : tie.Need-returns-2
 returns-2 c = search laws
+
+same-length-2 : tie.Need-same-length-2
+same-length-2 c = search laws
 
 returns-3 : tie.Need-returns-3
 returns-3 c = search laws
@@ -52,6 +58,8 @@ token-spec =
     closed-requires
     refuse-requires
     stopped-requires-2
+    same-length
     returns-2
+    same-length-2
     returns-3
     returns-4)

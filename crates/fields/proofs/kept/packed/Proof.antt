@@ -1,7 +1,7 @@
 -- Parent, type and text number fit their bits.
-use Rattle.tables.proofs.Places.{packed-laws}
-use Rattle.tables.proofs.packed.Statement.{statement}
-use Rattle.tables.proofs.packed.Tie as tie
+use Rattle.fields.proofs.Packed.{packed-laws}
+use Rattle.fields.proofs.kept.packed.Statement.{statement}
+use Rattle.fields.proofs.kept.packed.Tie as tie
 
 long-requires : tie.Need-long-requires
 long-requires c κs = search packed-laws

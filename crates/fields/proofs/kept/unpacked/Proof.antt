@@ -1,7 +1,7 @@
 -- The parts of the 32 bits fit the fields of an element.
-use Rattle.tables.proofs.Places.{packed-laws}
-use Rattle.tables.proofs.unpacked.Statement.{statement}
-use Rattle.tables.proofs.unpacked.Tie as tie
+use Rattle.fields.proofs.Packed.{packed-laws}
+use Rattle.fields.proofs.kept.unpacked.Statement.{statement}
+use Rattle.fields.proofs.kept.unpacked.Tie as tie
 
 cast-t3 : tie.Need-cast-t3
 cast-t3 c = search packed-laws

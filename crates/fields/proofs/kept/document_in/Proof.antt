@@ -1,17 +1,16 @@
--- The elements below i are unpacked.
+-- The elements below i are unpacked, and the places past them still blank.
 use Prim.Native.Nat.{_-_}
-use Rattle.meaning.specs.Limits.{elementLimit}
-use Rattle.tables.proofs.Places.{Copied, copied-laws}
-use Rattle.tables.proofs.document_in.Statement.{statement}
-use Rattle.tables.proofs.document_in.Tie as tie
+use Rattle.fields.proofs.Packed.{Copied, copied-laws}
+use Rattle.fields.proofs.kept.document_in.Statement.{statement}
+use Rattle.fields.proofs.kept.document_in.Tie as tie
 
 abbrev Inv-loop : tie.InvT-loop
-Inv-loop kept total elements₀ i₀ elements i =
-    Copied kept elements i
+Inv-loop kept count elements₀ i₀ elements i =
+    Copied kept count elements i
 
 abbrev μ-loop : tie.MeasureT-loop
-μ-loop kept total elements₀ i₀ elements i =
-    elementLimit - i
+μ-loop kept count elements₀ i₀ elements i =
+    count - i
 
 loop-holds : tie.Need-loop-holds Inv-loop μ-loop
 loop-holds c = search copied-laws

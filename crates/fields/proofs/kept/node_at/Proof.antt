@@ -1,10 +1,7 @@
 -- Node 0 and numbers past the elements are the document node; the others stand in their places.
-use Rattle.tables.proofs.Elements.{node-laws}
-use Rattle.tables.proofs.node_at.Statement.{statement}
-use Rattle.tables.proofs.node_at.Tie as tie
-
-place-requires : tie.Need-place-requires
-place-requires c κs = search node-laws
+use Rattle.fields.proofs.Packed.{node-laws}
+use Rattle.fields.proofs.kept.node_at.Statement.{statement}
+use Rattle.fields.proofs.kept.node_at.Tie as tie
 
 returns : tie.Need-returns
 returns c = search node-laws
@@ -31,7 +28,6 @@ pub node-at-spec : {M : Type 1} → statement M
 node-at-spec =
     tie.close
     (tie.spec
-    place-requires
     returns
     returns-2
     sub-i
