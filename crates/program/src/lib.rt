@@ -6,7 +6,7 @@ ghost use lib.Dec.{ltb};
 ghost use Rattle.fields.specs.Read.{readOf, ended};
 ghost use Rattle.program.specs.Rel.{layoutOf, byteUpTo, byteBelow, maskWord, readX, readY, operationOf, stepRead, stepsRead, programFile, coded, stepBytes, xOf, yOf, decodedOf};
 ghost use Rattle.meaning.specs.Records.{programOf};
-ghost use Rattle.program.specs.Answers.{Coded, unreadBy, stepAnswer, refusedBy, addedTo, programRead};
+ghost use Rattle.program.specs.Answers.{Coded, unreadBy, stepAnswer, refusedBy, programRead};
 use fields::Cursor;
 use fields::Field;
 use meaning::Operation;
@@ -239,21 +239,6 @@ fn refused(field: Field) -> ProgramRead
     }
 }
 
-// The program with one more step.
-fn added(program: Program, operation: Operation) -> Program
-    requires { ⌜ program .count < 24 ⌝ }
-    ensures { λ r. ⌜ r ≡ addedTo program operation ⌝ }
-{
-    let at = program.count;
-    let mut longer = program;
-    longer.steps[at] = Step {
-        number: at as u8,
-        operation,
-    };
-    longer.count = at + 1;
-    longer
-}
-
 // The steps of a file, and then its end.
 fn steps(s: &[u8], first: Cursor, k: u8, count: usize) -> ProgramRead
     requires { ⌜ count ≤ 24 ⌝ }
@@ -262,13 +247,16 @@ fn steps(s: &[u8], first: Cursor, k: u8, count: usize) -> ProgramRead
     let mut program = empty();
     let mut c = first;
     while program.count < count {
-        let read = step(s, c, k, program.count as u8);
+        let at = program.count;
+        let number = at as u8;
+        let read = step(s, c, k, number);
         let passed = read.passed;
         let Field::Got(_, next) = passed else {
             return refused(passed);
         };
         let operation = read.operation;
-        program = added(program, operation);
+        program.steps[at] = Step { number, operation };
+        program.count = at + 1;
         c = next;
     }
     let passed = c.end(s);

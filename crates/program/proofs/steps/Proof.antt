@@ -16,8 +16,8 @@ empty-requires c κs = search loop-laws
 loop-holds : tie.Need-loop-holds Inv-loop μ-loop
 loop-holds c = search loop-laws
 
-cast-step : tie.Need-cast-step Inv-loop μ-loop
-cast-step c = search loop-laws
+cast-number : tie.Need-cast-number Inv-loop μ-loop
+cast-number c = search loop-laws
 
 step-requires : tie.Need-step-requires Inv-loop μ-loop
 step-requires c κs = search loop-laws
@@ -34,8 +34,14 @@ refused-requires c κs = search loop-laws
 returns : tie.Need-returns Inv-loop μ-loop
 returns c = search loop-laws
 
-added-requires : tie.Need-added-requires Inv-loop μ-loop
-added-requires c κs = search loop-laws
+mul-t15 : tie.Need-mul-t15 Inv-loop μ-loop
+mul-t15 c = search loop-laws
+
+element-set-from-program : tie.Need-element-set-from-program Inv-loop μ-loop
+element-set-from-program c = search loop-laws
+
+add-program : tie.Need-add-program Inv-loop μ-loop
+add-program c = search loop-laws
 
 loop-less : tie.Need-loop-less Inv-loop μ-loop
 loop-less c = search loop-laws
@@ -69,13 +75,15 @@ steps-spec =
     μ-loop
     empty-requires
     loop-holds
-    cast-step
+    cast-number
     step-requires
     enum-known-passed
     enum-told
     refused-requires
     returns
-    added-requires
+    mul-t15
+    element-set-from-program
+    add-program
     loop-less
     loop-again
     end-requires
