@@ -78,8 +78,13 @@ module _ (row : List ℕ) (w : ℕ) {there : Bool} where
   pub with-none : there ≡ false → Bits row (including (inRow row) w there)
   with-none e = record { bits = including-none (inRow row) w e }
 
-  pub with-one : there ≡ true → w < 64 * length row → Bits (set row (w / 64) (bitOr (getD row (w / 64) 0) (1 * 2 ^ (w % 64) % 2 ^ 64))) (including (inRow row) w there)
-  with-one e l = record { bits = bit-put 64 (omega arith) row w refl e (omega arith) }
+  -- bit i of word k
+  pub with-one : (k i : ℕ) → there ≡ true → 64 * k + i ≡ w → i < 64 → k < length row
+      → Bits (set row k (bitOr (getD row k 0) (1 * 2 ^ i % 2 ^ 64))) (including (inRow row) w there)
+  with-one k i e is small l =
+      let word : w / 64 ≡ k = omega arith in
+      let place : w % 64 ≡ i = omega arith in
+      record { bits = rw (word, place) at (bit-put 64 (omega arith) row w refl e (omega arith)) }
 
 module _ (width : ℕ) (xs : List ℕ) (at w : ℕ) (there : Bool) where
   pub put-none : there ≡ false → RowMade width xs xs at (including (inBytes (stretch width xs at)) w there)

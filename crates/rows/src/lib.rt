@@ -75,15 +75,19 @@ pub fn put(work: &mut [u8], at: usize, w: usize, there: bool)
     }
 }
 
-// The row with w in it, where it is to be there.
+// The row with w in it, where it is to be there. Each word has a line of its own: at a place that is known only when it
+// runs, a word would be kept in memory and not in a register.
 pub fn with(row: [u64; 2], w: usize, there: bool) -> [u64; 2]
     requires { ⌜ w < 128 ⌝ }
     ensures { λ r. ⌜ Bits r (including (inRow row) w there) ⌝ }
 {
     let mut more = row;
     if there {
-        let word = w / 64;
-        more[word] = more[word] | (1 << (w % 64));
+        if w < 64 {
+            more[0] = more[0] | (1 << w);
+        } else {
+            more[1] = more[1] | (1 << (w - 64));
+        }
     }
     more
 }
