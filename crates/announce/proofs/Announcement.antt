@@ -1,6 +1,6 @@
 -- Announcements as sets: which struct shows a relation, and how the steps are announced one after the other.
-use Prim.Native.Nat.{ℕ, zero, suc, _+_, _-_, _<_}
-use mathlib.Core.Path.{_≡_, refl, sym, ap, _∙_, fun-ext}
+use Prim.Native.Nat.{ℕ, zero, suc, _-_, _<_}
+use mathlib.Core.Path.{_≡_, sym, ap, _∙_, fun-ext}
 use mathlib.Core.Bool.{true}
 use mathlib.Core.List.{List, [], _∷_, _++_, map, map-append}
 use native.Mathlib.Nat.{zero-add}
@@ -22,22 +22,11 @@ use Rattle.meaning.proofs.Results.{results-append, results-length}
 use Rattle.meaning.proofs.Sound.{announced-live}
 use Rattle.announce.specs.declared.Announced.{Announced}
 use Rattle.announce.specs.Pairs.{relOf}
-use Rattle.announce.specs.Check.{table, announcedSets, announcement}
+use Rattle.announce.specs.Check.{announcedSets, announcement}
 use Rattle.meaning.proofs.Bits.{same-bits, bits-of-mask}
 use Rattle.meaning.proofs.Sets.{bit-none}
+use Rattle.meaning.proofs.Lists.{table-length, table-at}
 use Rattle.announce.proofs.Rows.{rows-all}
-
-module _ {A : Type 0} (f : ℕ → A) where
-  table-length : (a n : ℕ) → length (table f a n) ≡ n
-  unfolding table
-  table-length a zero = refl
-  table-length a (suc n) = ap suc (table-length (suc a) n)
-
-  table-at : (a n i : ℕ) (d : A) → i < n → getD (table f a n) i d ≡ f (a + i)
-  unfolding table
-  table-at a zero i d l = absurd (omega arith)
-  table-at a (suc n) zero d l = ap f (omega arith)
-  table-at a (suc n) (suc i) d l = table-at (suc a) n i d (omega arith) ∙ ap f (omega arith)
 
 -- of 17 masks each, two announcements of the same pairs are equal
 pub shows-same : (a b : Announced) → length (a .pairs) ≡ kinds → length (b .pairs) ≡ kinds → relOf a ≡ relOf b → a ≡ b

@@ -1,11 +1,12 @@
 -- The check: it reads the graph and the program, and hands back one set of kinds for each of 17 kinds, for each step.
-use Prim.Native.Nat.{ℕ, zero, suc, _-_}
-use mathlib.Core.List.{List, [], _∷_, _++_, map}
+use Prim.Native.Nat.{ℕ, _-_}
+use mathlib.Core.List.{List, _++_, map}
 use lib.ListN.{length, replicate}
 use Rattle.meaning.specs.declared.Graph.{Graph}
 use Rattle.meaning.specs.declared.Operation.{Operation}
 use Rattle.meaning.specs.Limits.{kinds, stepLimit}
 use Rattle.meaning.specs.Sets.{mask}
+use Rattle.meaning.specs.Lists.{table}
 use Rattle.meaning.specs.Relations.{Relation, nothing}
 use Rattle.meaning.specs.Announcements.{announced}
 use Rattle.meaning.specs.Refused.{numberOf}
@@ -14,11 +15,6 @@ use Rattle.graph.specs.Gra.{graphFile}
 use Rattle.program.specs.Rel.{programFile}
 use Rattle.announce.specs.declared.Announced.{Announced}
 use Rattle.announce.specs.declared.Checked.{Checked}
-
--- f at the numbers from a on, n of them
-unfoldable pub table : {A : Type 0} → (ℕ → A) → ℕ → ℕ → List A
-table f a zero = []
-table f a (suc n) = f a ∷ table f (suc a) n
 
 -- for each kind A, the set of the kinds B with (A, B) in the relation
 unfoldable pub announcedSets : Relation → Announced

@@ -14,7 +14,7 @@ use Rattle.meaning.specs.declared.Element.{Element}
 use Rattle.meaning.specs.Documents.{documentNode, node}
 use Rattle.meaning.specs.Records.{elementsIn}
 use Rattle.fields.specs.Write.{byteOf, wordOf}
-use Rattle.fields.proofs.Nodes.{getD-within}
+use Rattle.meaning.proofs.Records.{at-any}
 use Rattle.document.specs.Tre.{openOf, tokensOf}
 use Rattle.document.proofs.Climbs.{Up, here, up, closes-none, parent-less, rule-up}
 use Rattle.writing.specs.Put.{Put}
@@ -56,7 +56,7 @@ module _ {d : Document} (held : Held d) where
   element-is (suc i) x p l =
       let e : suc i - 1 ≡ i = omega arith in
       let long = length-take (d .count) (d .elements) in
-      rw e (getD-within (d .elements) i x documentNode (omega (arith, held .count)) ∙ sym (getD-take (d .count) (d .elements) i documentNode l))
+      rw e (at-any (d .elements) i x documentNode (omega (arith, held .count)) ∙ sym (getD-take (d .count) (d .elements) i documentNode l))
 
   less : (n : ℕ) → 0 < n → n ≤ length (elementsIn d) → node (elementsIn d) n .parent < n
   less = parent-less _ (held .graph) (elementsIn d) (held .accepted)

@@ -2,19 +2,13 @@
 use Prim.Native.Nat.{ℕ, zero, suc, _-_, _<_, _≤_}
 use mathlib.Core.Path.{_≡_, refl, sym, _∙_}
 use mathlib.Core.List.{List, [], _∷_, _++_, map}
-use native.Mathlib.Nat.{le-of-suc-le-suc, not-suc-le-zero}
 use native.Mathlib.Omega.{arith}
 use lib.ListN.{length, getD, replicate, length-map, List·getD-eq-default}
 use borrow.Author.Needs.{needs}
 use Rattle.meaning.specs.declared.Element.{Element}
 use Rattle.meaning.specs.Limits.{elementLimit}
 use Rattle.meaning.specs.Documents.{node, documentNode}
-
--- within a list it does not matter what stands past its end
-pub getD-within : {A : Type 0} (l : List A) (i : ℕ) (a b : A) → i < length l → getD l i a ≡ getD l i b
-getD-within [] i a b h = absurd (not-suc-le-zero h)
-getD-within (x ∷ l) zero a b h = refl
-getD-within (x ∷ l) (suc i) a b h = getD-within l i a b (le-of-suc-le-suc h)
+use Rattle.meaning.proofs.Records.{at-any}
 
 -- an array is as long as what its elements are made of
 pub array-full : {A B : Type 0} (l : List A) (f : A → B) {n : ℕ} → length (map f l) ≡ n → length l ≡ n
@@ -35,7 +29,7 @@ module _ (es : List Element) where
     pub node-held : (v : ℕ) (d : Element) → (v ≡ 0 → ⊥) → v ≤ elementLimit → getD es (v - 1) d ≡ node es v
     unfolding node
     node-held zero d n l = absurd (n refl)
-    node-held (suc i) d n l = let h : suc i - 1 ≡ i = omega arith in rw h (getD-within es i d documentNode (omega arith))
+    node-held (suc i) d n l = let h : suc i - 1 ≡ i = omega arith in rw h (at-any es i d documentNode (omega arith))
 
 -- blank places past the elements change no node
 pub node-padded : (es : List Element) (k v : ℕ) → node (es ++ replicate k documentNode) v ≡ node es v

@@ -12,6 +12,9 @@ use Rattle.meaning.proofs.Records.{document-holds}
 use Rattle.fields.specs.Read.{Read, got, refused}
 use Rattle.fields.specs.Outcomes.{outcomeOf, valueOr, documentRead}
 
+pub got-same : {A : Type 0} {a b : A} {n m : ℕ} → got a n ≡ got b m → (a ≡ b) × (n ≡ m)
+got-same h = (cc, cc)
+
 pub turned : {A : Type 0} (e : Read A) {r : Refusal} → outcomeOf e ≡ Refused r → e ≡ refused r
 turned (got a at) h = cc
 turned (refused q) h = cc

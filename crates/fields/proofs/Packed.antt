@@ -13,7 +13,8 @@ use Rattle.meaning.specs.Limits.{elementLimit}
 use Rattle.meaning.specs.Documents.{node, documentNode}
 use Rattle.meaning.specs.Records.{documentOf, elementsIn}
 use Rattle.fields.specs.Kept.{elementIn, documentIn}
-use Rattle.fields.proofs.Nodes.{getD-within, node-zero}
+use Rattle.meaning.proofs.Records.{at-any}
+use Rattle.fields.proofs.Nodes.{node-zero}
 
 pub packed-is : (e : Element) {p k x : ℕ} → p ≡ e .parent → k ≡ e .kind → x ≡ e .text → e .parent < 256 → e .kind < 256 → e .text < 65536 → elementIn ((p * 256 + k) * 65536 + x) ≡ e
 unfolding elementIn
@@ -52,7 +53,7 @@ module _ (kept : List ℕ) (count : ℕ) where
         let before : suc i - 1 ≡ i = omega arith in
         same
         ∙ sym (List·getD-map elementIn kept (suc i - 1) 0)
-        ∙ rw before (getD-within (map elementIn kept) i (elementIn 0) documentNode (omega (arith, length-map kept elementIn)) ∙ sym (getD-take count (map elementIn kept) i documentNode (omega arith)))
+        ∙ rw before (at-any (map elementIn kept) i (elementIn 0) documentNode (omega (arith, length-map kept elementIn)) ∙ sym (getD-take count (map elementIn kept) i documentNode (omega arith)))
 
 pub ruleset node-laws = (node-zero, held-past, held-there, needs)
 

@@ -12,7 +12,7 @@ use Rattle.meaning.specs.Limits.{stepLimit}
 use Rattle.meaning.specs.Operations.{LegalProgram}
 use Rattle.fields.specs.Write.{byteOf, headerOf}
 use Rattle.program.specs.Rel.{decodedOf, coded, stepBytes, stepsBytes, programBytes}
-use Rattle.program.proofs.Encoded.{program-length}
+use Rattle.program.proofs.Encoded.{step-length, program-length}
 use Rattle.writing.specs.Lent.{over}
 use Rattle.glance.specs.Glance.{operationAt, stepsHeld, Held}
 use Rattle.glance.proofs.Lists.{table-is}
@@ -24,11 +24,6 @@ at-behind xs ys n i e =
     let byte : (j : ℕ) → getD (xs ++ ys) (n + j) 0 ≡ getD ys j 0 = λ j. ap (λ (m : ℕ). getD (xs ++ ys) (m + j) 0) (sym e) ∙ getD-append-add xs ys j 0 in
     let next : (j : ℕ) → getD (xs ++ ys) (n + i + j) 0 ≡ getD ys (i + j) 0 = λ j. ap (λ (m : ℕ). getD (xs ++ ys) m 0) (add-assoc n i j) ∙ byte (i + j) in
     ap (λ (c : ℕ). decodedOf c (getD (xs ++ ys) (n + i + 1) 0) (getD (xs ++ ys) (n + i + 2) 0)) (byte i) ∙ ap₂ (decodedOf (getD ys i 0)) (next 1) (next 2)
-
--- a step takes three bytes, since one more makes a program's file three longer
-step-long : (o : Operation) → length (stepBytes o) ≡ 3
-unfolding programBytes stepsBytes
-step-long o = omega (arith, program-length (o ∷ []), length-append (stepBytes o) [])
 
 -- the first step of some bytes
 step-first : (o : Operation) (rest : List ℕ) → operationAt (stepBytes o ++ rest) 0 ≡ o
@@ -50,7 +45,7 @@ steps-are (o ∷ os) rest zero l = ap (λ (xs : List ℕ). operationAt xs 0) (ap
 steps-are (o ∷ os) rest (suc s) l =
     let e : 3 * suc s ≡ 3 + 3 * s = omega arith in
     ap₂ operationAt (append-assoc (stepBytes o) (stepsBytes os) rest) e
-    ∙ at-behind (stepBytes o) (stepsBytes os ++ rest) 3 (3 * s) (step-long o) ∙ steps-are os rest s (omega arith)
+    ∙ at-behind (stepBytes o) (stepsBytes os ++ rest) 3 (3 * s) (step-length o) ∙ steps-are os rest s (omega arith)
 
 -- what stands before the steps
 abbrev head : List Operation → List ℕ

@@ -15,10 +15,10 @@ use Rattle.meaning.specs.Documents.{documentNode, isElement, textTest, view, no
 use Rattle.meaning.proofs.Tests.{and-in}
 use Rattle.meaning.proofs.Bits.{bit-shifted}
 use Rattle.program.specs.Rel.{decodedOf}
-use Rattle.runner.specs.Layout.{table}
+use Rattle.meaning.specs.Lists.{table}
 use Rattle.rows.specs.Rows.{bitIn, inRow}
 use Rattle.glance.specs.Glance.{elementAt, elementByte, operationAt, nodesIn, Known}
-use Rattle.runner.proofs.Layouts.{table-length}
+use Rattle.meaning.proofs.Lists.{table-length}
 use Rattle.glance.proofs.Lists.{front-at}
 
 -- the step that stands at a place

@@ -18,13 +18,13 @@ use Rattle.meaning.specs.Operations.{LegalOperation, run}
 use Rattle.meaning.specs.Records.{elementsIn}
 use Rattle.program.specs.Rel.{decodedOf}
 use Rattle.runner.specs.Ready.{shown, Nodes}
-use Rattle.runner.specs.Layout.{table}
+use Rattle.meaning.specs.Lists.{table}
 use Rattle.rows.specs.Rows.{Written}
 use Rattle.glance.specs.Glance.{elementByte, documentByte, elementAt, operationAt, stepsHeld, Held, Laid, nodesIn, result, Known}
 use Rattle.rows.proofs.Cases.{by-order}
 use Rattle.rows.proofs.Bytes.{written-none, written-more, written-called}
 use Rattle.runner.proofs.Elements.{parent-below, kind-below}
-use Rattle.runner.proofs.Layouts.{table-length, table-more, table-cong}
+use Rattle.meaning.proofs.Lists.{table-length, table-more, table-cong}
 use Rattle.glance.proofs.Lists.{front-at, table-is}
 use Rattle.glance.proofs.Steps.{run-kept}
 

@@ -6,8 +6,8 @@ use native.Mathlib.Nat.{zero-add}
 use native.Mathlib.Omega.{arith}
 use lib.ListN.{length, getD}
 use lib.Seq.{ext-getD}
-use Rattle.runner.specs.Layout.{table}
-use Rattle.runner.proofs.Layouts.{table-length, table-at}
+use Rattle.meaning.specs.Lists.{table}
+use Rattle.meaning.proofs.Lists.{table-length, table-at}
 
 module _ {A : Type 0} (f : ℕ → A) where
   pub front-at : (n i : ℕ) (x : A) → i < n → getD (table f 0 n) i x ≡ f i

@@ -22,12 +22,12 @@ use Rattle.rows.specs.declared.Mix.{Mix}
 use Rattle.rows.specs.declared.Mix.the-variants as mix
 use Rattle.glance.specs.declared.Share.{Share}
 use Rattle.glance.specs.declared.Share.the-variants as share
-use Rattle.runner.specs.Layout.{table}
+use Rattle.meaning.specs.Lists.{table}
 use Rattle.rows.specs.Rows.{inRow, Bits, gathered, mixes, mixture, diagonal, Next}
 use Rattle.glance.specs.Glance.{operationAt, nodesIn, result, Known, led, Led, Paired, shared}
 use Rattle.rows.proofs.Rows.{row-blank}
 use Rattle.rows.proofs.Searches.{has-some, gathered-none, gathered-more, gathered-all}
-use Rattle.runner.proofs.Layouts.{table-length}
+use Rattle.meaning.proofs.Lists.{table-length}
 use Rattle.glance.proofs.Lists.{front-at}
 use Rattle.glance.proofs.Known.{nodes-size, node-there, there-node, parent-read}
 use Rattle.glance.proofs.Steps.{step-rows}

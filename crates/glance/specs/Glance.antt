@@ -18,7 +18,7 @@ use Rattle.rows.specs.declared.Mix.{Mix}
 use Rattle.glance.specs.declared.Share.{Share}
 use Rattle.glance.specs.declared.Share.the-variants as share
 use Rattle.program.specs.Rel.{decodedOf}
-use Rattle.runner.specs.Layout.{table}
+use Rattle.meaning.specs.Lists.{table}
 use Rattle.rows.specs.Rows.{inRow, mixes, mixture, diagonal}
 
 -- byte j of the four of an element, and byte k of those of a document's elements

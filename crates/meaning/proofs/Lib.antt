@@ -2,6 +2,7 @@ pub mod Example
 pub mod Tests
 pub mod Sets
 pub mod Listed
+pub mod Lists
 pub mod Bits
 pub mod Closure
 pub mod Ends

@@ -1,6 +1,7 @@
 -- Document 01 in its own order, but for what is about a file's bytes.
 pub mod Limits
 pub mod Sets
+pub mod Lists
 pub mod Relations
 pub mod Graphs
 pub mod Documents

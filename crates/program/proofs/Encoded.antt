@@ -14,7 +14,7 @@ use Rattle.fields.specs.Write.{Bytes, byteOf, wordOf, headerOf}
 use Rattle.fields.proofs.Bytes.{bytes-more, bytes-none, bytes-append, bytes-byte, bytes-word, bytes-header}
 use Rattle.program.specs.Rel.{coded, stepBytes, stepsBytes, programBytes}
 
-step-length : (o : Operation) → length (stepBytes o) ≡ 3
+pub step-length : (o : Operation) → length (stepBytes o) ≡ 3
 unfolding coded
 step-length (Table m) = refl
 step-length Itself = refl
@@ -26,7 +26,7 @@ step-length (Has a) = refl
 step-length (Diff a b) = refl
 step-length (Both a b) = refl
 
-steps-length : (os : List Operation) → length (stepsBytes os) ≡ 3 * length os
+pub steps-length : (os : List Operation) → length (stepsBytes os) ≡ 3 * length os
 unfolding stepsBytes
 steps-length [] = refl
 steps-length (o ∷ os) = omega (arith, length-append (stepBytes o) (stepsBytes os), step-length o, steps-length os)

@@ -1,8 +1,8 @@
--- Laws of the work area's layout: a table of values, bytes that stand over the front of a buffer, and the bits of a step.
-use Prim.Native.Nat.{ℕ, zero, suc, _+_, _-_, _*_, _/_, _%_, _^_, _≤_, _<_}
-use mathlib.Core.Path.{_≡_, refl, sym, ap, ap₂, _∙_}
-use mathlib.Core.List.{List, [], _∷_, _++_}
-use native.Mathlib.Nat.{add-zero, zero-add, suc-add, add-suc}
+-- Laws of the work area's layout: bytes that stand over the front of a buffer, and the bits of a step.
+use Prim.Native.Nat.{ℕ, _+_, _-_, _*_, _/_, _%_, _^_, _≤_, _<_}
+use mathlib.Core.Path.{_≡_, sym, ap, ap₂, _∙_}
+use mathlib.Core.List.{List}
+use native.Mathlib.Nat.{zero-add}
 use native.Mathlib.Omega.{arith}
 use lib.ListN.{length, getD, take, List·getD-append}
 use lib.Seq.{getD-append-add, getD-drop}
@@ -11,38 +11,15 @@ use Rattle.meaning.specs.Sets.{bit}
 use Rattle.meaning.specs.Relations.{at}
 use Rattle.meaning.specs.Documents.{View}
 use Rattle.meaning.specs.Operations.{run}
+use Rattle.meaning.specs.Lists.{table}
 use Rattle.meaning.proofs.Sets.{bit-mask}
+use Rattle.meaning.proofs.Lists.{table-length, table-at}
 use Rattle.writing.specs.Lent.{over}
 use Rattle.writing.proofs.Puts.{over-front, over-length}
-use Rattle.runner.specs.Layout.{rowBytes, roomBytes, roomByte, workByte, joined, table, overwritten}
+use Rattle.runner.specs.Layout.{rowBytes, roomBytes, roomByte, workByte, joined, overwritten}
 use Rattle.rows.specs.Rows.{rowsAt}
 use Rattle.rows.proofs.Bits.{is-mask}
 use Rattle.runner.proofs.Rooms.{room-bit}
-
-module _ {A : Type 0} (f : ℕ → A) where
-  pub table-length : (a n : ℕ) → length (table f a n) ≡ n
-  unfolding table
-  table-length a zero = refl
-  table-length a (suc n) = ap suc (table-length (suc a) n)
-
-  pub table-at : (a n i : ℕ) (none : A) → i < n → getD (table f a n) i none ≡ f (a + i)
-  unfolding table
-  table-at a zero i none l = absurd (omega arith)
-  table-at a (suc n) zero none l = ap f (sym (add-zero a))
-  table-at a (suc n) (suc i) none l = table-at (suc a) n i none (omega arith) ∙ ap f (suc-add a i ∙ sym (add-suc a i))
-
-  pub table-more : (a n : ℕ) → table f a (suc n) ≡ table f a n ++ (f (a + n) ∷ [])
-  unfolding table
-  table-more a zero = ap (λ (i : ℕ). f i ∷ []) (sym (add-zero a))
-  table-more a (suc n) =
-      ap (λ (l : List A). f a ∷ l) (table-more (suc a) n)
-      ∙ ap (λ (i : ℕ). f a ∷ (table f (suc a) n ++ (f i ∷ []))) (suc-add a n ∙ sym (add-suc a n))
-
-  pub table-cong : (g : ℕ → A) (a n : ℕ) → ((i : ℕ) → i < a + n → f i ≡ g i) → table f a n ≡ table g a n
-  unfolding table
-  table-cong g a zero h = refl
-  table-cong g a (suc n) h =
-      ap (λ (x : A). x ∷ table f (suc a) n) (h a (omega arith)) ∙ ap (λ (l : List A). g a ∷ l) (table-cong g (suc a) n (λ i l. h i (omega arith)))
 
 module _ (bytes old : List ℕ) where
   pub over-at : (i : ℕ) → i < length bytes → getD (over 0 bytes old) i 0 ≡ getD bytes i 0

@@ -25,7 +25,9 @@ use Rattle.meaning.proofs.Records.{operation-at}
 use Rattle.fields.proofs.Nodes.{array-full}
 use Rattle.meaning.proofs.Results.{results-append}
 use Rattle.meaning.proofs.Runs.{run-nodes}
-use Rattle.runner.specs.Layout.{rowBytes, roomBytes, roomByte, workByte, table, overwritten}
+use Rattle.meaning.specs.Lists.{table}
+use Rattle.meaning.proofs.Lists.{table-more, table-cong}
+use Rattle.runner.specs.Layout.{rowBytes, roomBytes, roomByte, workByte, overwritten}
 use Rattle.rows.specs.Rows.{rowsAt, Kept}
 use Rattle.runner.specs.Rooms.{Made}
 use Rattle.runner.specs.Ready.{shown, Nodes, Ready}
@@ -33,7 +35,7 @@ use Rattle.runner.specs.Steps.{roomsIn, Makeable}
 use Rattle.rows.proofs.Bytes.{kept-all, kept-wider, kept-inside}
 use Rattle.runner.proofs.Rooms.{room-kept}
 use Rattle.runner.proofs.Elements.{there-node}
-use Rattle.runner.proofs.Layouts.{table-more, table-cong, byte-is, overwritten-front, overwritten-past, overwritten-length}
+use Rattle.runner.proofs.Layouts.{byte-is, overwritten-front, overwritten-past, overwritten-length}
 use Rattle.rows.proofs.Cases.{by-order}
 use Rattle.runner.proofs.Steps.{size-is, room-at}
 

@@ -28,7 +28,7 @@ use Rattle.runner.specs.Steps.{roomsIn, Makeable}
 use Rattle.runner.proofs.Rooms.{upTo-all, made-as}
 use Rattle.runner.proofs.Elements.{node-there, there-node}
 use Rattle.rows.proofs.Cases.{by-order}
-use Rattle.runner.proofs.Layouts.{table-length, table-at}
+use Rattle.meaning.proofs.Lists.{table-length, table-at}
 
 -- how many nodes there are, as the code counts them
 pub size-is : (d : Document) → Nodes d → d .count + 1 ≡ shown d .size

@@ -1,10 +1,11 @@
 -- The work area: step s starts at byte 2048s, rows from v at 16v within it; (v, w) is bit w mod 8, lowest first, of
 -- byte w div 8; all other bits of a step are 0.
-use Prim.Native.Nat.{ℕ, zero, suc, _+_, _*_, _/_, _%_}
-use mathlib.Core.List.{List, [], _∷_}
+use Prim.Native.Nat.{ℕ, _+_, _*_, _/_, _%_}
+use mathlib.Core.List.{List}
 use lib.ListN.{getD}
 use Rattle.meaning.specs.declared.Operation.{Operation}
 use Rattle.meaning.specs.Sets.{bit, mask}
+use Rattle.meaning.specs.Lists.{table}
 use Rattle.meaning.specs.Relations.{Relation, at}
 use Rattle.meaning.specs.Documents.{View}
 use Rattle.meaning.specs.Operations.{run}
@@ -27,11 +28,6 @@ workByte d os i = roomByte (at (run d os) (i / roomBytes)) (i % roomBytes)
 -- (v, w) is in step s, as the work area holds it
 abbrev pub joined : List ℕ → ℕ → Relation
 joined work s v w = bit (getD work (roomBytes * s + rowBytes * v + w / 8) 0) (w % 8)
-
--- f at the numbers from a on, n of them
-unfoldable pub table : {A : Type 0} → (ℕ → A) → ℕ → ℕ → List A
-table f a zero = []
-table f a (suc n) = f a ∷ table f (suc a) n
 
 -- the first n bytes are f's, the others stay
 unfoldable pub overwritten : (ℕ → ℕ) → ℕ → List ℕ → List ℕ

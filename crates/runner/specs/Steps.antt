@@ -6,9 +6,10 @@ use mathlib.Core.List.{List}
 use lib.ListN.{length}
 use Rattle.meaning.specs.declared.Document.{Document}
 use Rattle.meaning.specs.declared.Operation.{Operation}
+use Rattle.meaning.specs.Lists.{table}
 use Rattle.meaning.specs.Relations.{Relation}
 use Rattle.meaning.specs.Operations.{LegalOperation}
-use Rattle.runner.specs.Layout.{rowBytes, roomBytes, table}
+use Rattle.runner.specs.Layout.{rowBytes, roomBytes}
 use Rattle.rows.specs.Rows.{rowsAt}
 use Rattle.runner.specs.Ready.{shown, Nodes}
 

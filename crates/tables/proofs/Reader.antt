@@ -26,11 +26,12 @@ use Rattle.fields.specs.declared.Field.{Field}
 use Rattle.fields.specs.declared.Field.the-variants.{Got, Refused}
 use Rattle.fields.proofs.Laws.{taken, handed, taken-passed, handed-passed, beside-got, beside-refused}
 use Rattle.fields.proofs.Formats.{bind-out, end-out}
+use Rattle.fields.proofs.Outcomes.{got-same}
 use Rattle.tables.specs.declared.Row.{Row}
 use Rattle.tables.specs.Edg.{tablesRead, rowsFile, times, eachOnce, placed, elementsOf, elementJudged, elementsJudged, whole, tablesFile}
 use Rattle.tables.specs.Kept.{mapped, Gathered, none, added, GoodRow, Answers, ones}
 use Rattle.tables.proofs.Lists.{All, same-anywhere}
-use Rattle.tables.proofs.Readings.{got-same, mapped-refused, turned-away}
+use Rattle.tables.proofs.Readings.{mapped-refused, turned-away}
 use Rattle.tables.proofs.Places.{none-sound, blank-none, place-laws}
 use Rattle.tables.proofs.Tables.{added-total, tables-out}
 use Rattle.tables.proofs.Numbers.{added-elements, added-times, ones-once}

@@ -8,9 +8,6 @@ use Rattle.fields.specs.declared.Field.{Field}
 use Rattle.fields.specs.declared.Field.the-variants.{Refused}
 use Rattle.tables.specs.Kept.{mapped, Gathered, Sound, Answers}
 
-pub got-same : {A : Type 0} {a b : A} {n m : ℕ} → got a n ≡ got b m → (a ≡ b) × (n ≡ m)
-got-same h = (cc, cc)
-
 pub mapped-refused : {A B : Type 0} (f : A → B) (e : Read A) {r : Refusal} → mapped f e ≡ refused r → e ≡ refused r
 unfolding mapped
 mapped-refused f (got a n) h = let z : _≡_ {A = ℕ} 0 1 = cc in absurd (omega arith)

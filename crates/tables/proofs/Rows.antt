@@ -21,11 +21,11 @@ use Rattle.fields.specs.declared.Field.{Field}
 use Rattle.fields.specs.declared.Field.the-variants.{Got, Refused}
 use Rattle.fields.proofs.Laws.{taken, handed}
 use Rattle.fields.proofs.Formats.{bind-out, pick-out}
+use Rattle.fields.proofs.Outcomes.{got-same}
 use Rattle.tables.specs.declared.Row.{Row}
 use Rattle.tables.specs.Edg.{rowRule, rowRead, rowsRead}
 use Rattle.tables.specs.Kept.{GoodRow}
 use Rattle.tables.proofs.Lists.{All, all-none, all-more}
-use Rattle.tables.proofs.Readings.{got-same}
 
 -- the rule of a row, test by test
 module _ (limit before from to : ℕ) where

@@ -19,12 +19,13 @@ use Rattle.fields.specs.declared.Field.{Field}
 use Rattle.fields.specs.declared.Field.the-variants.{Got, Refused}
 use Rattle.fields.proofs.Laws.{taken, handed, beside-got, beside-refused}
 use Rattle.fields.proofs.Formats.{bind-out, pick-out}
+use Rattle.fields.proofs.Outcomes.{got-same}
 use Rattle.tables.specs.declared.Row.{Row}
 use Rattle.tables.specs.declared.RowRead.{RowRead}
 use Rattle.tables.specs.Edg.{rowRead, rowsRead, tablesRead}
 use Rattle.tables.specs.Kept.{mapped, Gathered, none, put, added, Sound, GoodRow, Answers}
 use Rattle.tables.proofs.Lists.{All, all-none, all-append, set-keeps}
-use Rattle.tables.proofs.Readings.{got-same, mapped-refused, turned-away}
+use Rattle.tables.proofs.Readings.{mapped-refused, turned-away}
 use Rattle.tables.proofs.Places.{none-sound, place-laws}
 use Rattle.tables.proofs.Rows.{row-out, rows-out}
 use Rattle.tables.proofs.Stretch.{stretch-got, stretch-refused}

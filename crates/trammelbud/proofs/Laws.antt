@@ -17,6 +17,7 @@ use Rattle.meaning.specs.declared.Operation.{Operation}
 use Rattle.meaning.specs.Limits.{elementLimit, queryLimit, stepLimit}
 use Rattle.meaning.specs.Records.{documentOf, programOf}
 use Rattle.meaning.specs.Queries.{XPath}
+use Rattle.fields.proofs.Outcomes.{turned}
 use Rattle.query.specs.Answers.{queryRead}
 use Rattle.query.specs.declared.QueryRead.{QueryRead}
 use Rattle.program.specs.Answers.{programRead}
@@ -32,14 +33,10 @@ use Rattle.document.proofs.Bounds.{few-elements}
 use Rattle.writing.specs.Lent.{accepted, turnedAway}
 use Rattle.trammelbud.specs.Calls.{answerOf, counted, readGraph, readUnder}
 
-refused-is : {A : Type 0} (e : Read A) {r : Refusal} → outcomeOf e ≡ Refused r → e ≡ refused r
-refused-is (got a at) h = cc
-refused-is (refused q) h = cc
-
 -- a refused file ends the call, whatever would follow
 stopped : {A : Type 0} (e : Read A) (f : A → ℕ → Read ℕ) {r : Refusal} → outcomeOf e ≡ Refused r → turnedAway r ≡ answerOf (bind e f)
 unfolding answerOf
-stopped e f h = rw (refused-is e h)
+stopped e f h = rw (turned e h)
 
 -- an accepted one hands on what it held
 went-on : {A : Type 0} (none : A) (e : Read A) (f : A → Read ℕ) → outcomeOf e ≡ Accepted → answerOf (f (valueOr none e)) ≡ answerOf (bind e (λ a at. f a))

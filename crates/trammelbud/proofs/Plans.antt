@@ -33,7 +33,7 @@ use Rattle.meaning.proofs.Theorems.{translation-is-right}
 use Rattle.fields.specs.Read.{Read, got, refused, bind, pick}
 use Rattle.fields.proofs.Formats.{bind-out, pick-out}
 use Rattle.fields.specs.Outcomes.{valueOr, documentRead}
-use Rattle.fields.proofs.Outcomes.{elements-turned, elements-held}
+use Rattle.fields.proofs.Outcomes.{elements-turned, elements-held, got-same}
 use Rattle.graph.specs.declared.GraphRead.{GraphRead}
 use Rattle.graph.specs.Gra.{graphFile}
 use Rattle.graph.specs.Answers.{graphRead}
@@ -74,11 +74,8 @@ translated-out g qry {os} {n} h =
     let q = bind-out (queryFile (g .k) qry 0) _ h in
     let p = q .0 .0 in
     let o = pick-out (leb (stepCount p) stepLimit) (got (translated g p) (q .1)) (record { reason = Steps }) (q .3) in
-    let same : (translated g p ≡ os) × (q .1 ≡ n) = got-out (o .1) in
+    let same : (translated g p ≡ os) × (q .1 ≡ n) = got-same (o .1) in
     record { path = p; left = q .0 .1; reads = q .2 ∙ ap (got (q .0)) (same .1); few = leb-true (stepCount p) stepLimit (o .0); is = sym (same .0) }
-  where
-    got-out : {A : Type 0} {a b : A} {i j : ℕ} → got a i ≡ got b j → (a ≡ b) × (i ≡ j)
-    got-out e = (cc, cc)
 
 -- it is a legal program
 query-legal : (g : Graph) → LegalGraph g → (qry : List ℕ) → ((i : ℕ) → Fits w8 (getD qry i 0)) → {os : List Operation} {n : ℕ} → Query g qry os n → LegalProgram stepLimit (g .k) os

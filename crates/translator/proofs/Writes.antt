@@ -14,18 +14,14 @@ use Rattle.meaning.specs.Operations.{last}
 use Rattle.meaning.specs.Translation.{image, orReachable, Adds, step, then, thenBoth, descend}
 use Rattle.fields.specs.Write.{byteOf}
 use Rattle.program.specs.declared.StepBytes.{StepBytes}
-use Rattle.program.specs.Rel.{stepBytes, stepsBytes, programBytes}
-use Rattle.program.proofs.Encoded.{program-length}
+use Rattle.program.specs.Rel.{stepBytes, stepsBytes}
+use Rattle.program.proofs.Encoded.{steps-length}
 use Rattle.writing.specs.Lent.{over}
 use Rattle.writing.specs.Put.{Put}
 use Rattle.writing.proofs.Puts.{over-more, put-then, put-length}
 use Rattle.translator.specs.declared.steps.Place.{Place}
 use Rattle.translator.specs.Descent.{onto, Holds, Writes, Goes, Room, Behind, Masked, Pair, Below}
 use Rattle.translator.proofs.KindMasks.{reachable-small, together-or}
-
-steps-length : (os : List Operation) → length (stepsBytes os) ≡ 3 * length os
-unfolding programBytes
-steps-length os = omega (arith, program-length os)
 
 steps-more : (os : List Operation) (o : Operation) → stepsBytes (os ++ (o ∷ [])) ≡ stepsBytes os ++ stepBytes o
 unfolding stepsBytes
