@@ -3,8 +3,5 @@ use Rattle.announce.proofs.Algebra.{algebra}
 use Rattle.announce.proofs.nothing.Statement.{statement}
 use Rattle.announce.proofs.nothing.Tie as tie
 
-returns : tie.Need-returns
-returns c = search algebra
-
 pub nothing-spec : {M : Type 1} → statement M
-nothing-spec = tie.close (tie.spec returns)
+nothing-spec = tie.close (tie.spec (λ c. search algebra))

@@ -15,65 +15,23 @@ Inv-loop g mask live own r₀ i₀ r i = Rows (pairs g [] (Table mask)) (r .pair
 abbrev μ-loop : tie.MeasureT-loop
 μ-loop g mask live own r₀ i₀ r i = kinds - i
 
-live-requires : tie.Need-live-requires Inv-loop μ-loop
-live-requires c κs = search laws
-
-diagonal-requires : tie.Need-diagonal-requires Inv-loop μ-loop
-diagonal-requires c κs = search laws
-
-nothing-requires : tie.Need-nothing-requires Inv-loop μ-loop
-nothing-requires c κs = search laws
-
-loop-holds : tie.Need-loop-holds Inv-loop μ-loop
-loop-holds c = search laws
-
-mul-children : tie.Need-mul-children Inv-loop μ-loop
-mul-children c = search laws
-
-element-copy-out-children : tie.Need-element-copy-out-children Inv-loop μ-loop
-element-copy-out-children c = search laws
-
-children-requires : tie.Need-children-requires Inv-loop μ-loop
-children-requires c κs = search laws
-
-wide-requires : tie.Need-wide-requires Inv-loop μ-loop
-wide-requires c κs = search laws
-
-mul-r : tie.Need-mul-r Inv-loop μ-loop
-mul-r c = search laws
-
-element-write-r : tie.Need-element-write-r Inv-loop μ-loop
-element-write-r c = search laws
-
-add-i : tie.Need-add-i Inv-loop μ-loop
-add-i c = search laws
-
-loop-less : tie.Need-loop-less Inv-loop μ-loop
-loop-less c = search laws
-
-loop-again : tie.Need-loop-again Inv-loop μ-loop
-loop-again c = search laws
-
-returns : tie.Need-returns Inv-loop μ-loop
-returns c = search laws
-
 pub table-spec : {M : Type 1} → statement M
 table-spec =
     tie.close
     (tie.spec
     Inv-loop
     μ-loop
-    live-requires
-    diagonal-requires
-    nothing-requires
-    loop-holds
-    mul-children
-    element-copy-out-children
-    children-requires
-    wide-requires
-    mul-r
-    element-write-r
-    add-i
-    loop-less
-    loop-again
-    returns)
+    (λ c κs. search laws)
+    (λ c κs. search laws)
+    (λ c κs. search laws)
+    (λ c. search laws)
+    (λ c. search laws)
+    (λ c. search laws)
+    (λ c κs. search laws)
+    (λ c κs. search laws)
+    (λ c. search laws)
+    (λ c. search laws)
+    (λ c. search laws)
+    (λ c. search laws)
+    (λ c. search laws)
+    (λ c. search laws))

@@ -10,45 +10,18 @@ Inv-loop cases case₀ case = 6 * cases < 2 ^ 64
 abbrev μ-loop : tie.MeasureT-loop
 μ-loop cases case₀ case = cases - case
 
-arg-count-requires : tie.Need-arg-count-requires Inv-loop μ-loop
-arg-count-requires c κs = search needs
-
-loop-holds : tie.Need-loop-holds Inv-loop μ-loop
-loop-holds c = search needs
-
-mul-judge : tie.Need-mul-judge Inv-loop μ-loop
-mul-judge c = search needs
-
-add-judge : tie.Need-add-judge Inv-loop μ-loop
-add-judge c = search needs
-
-judge-requires : tie.Need-judge-requires Inv-loop μ-loop
-judge-requires c κs = search needs
-
-add-case : tie.Need-add-case Inv-loop μ-loop
-add-case c = search needs
-
-loop-less : tie.Need-loop-less Inv-loop μ-loop
-loop-less c = search needs
-
-loop-again : tie.Need-loop-again Inv-loop μ-loop
-loop-again c = search needs
-
-returns : tie.Need-returns Inv-loop μ-loop
-returns c = search needs
-
 pub main-spec : {M : Type 1} → statement M
 main-spec =
     tie.close
     (tie.spec
     Inv-loop
     μ-loop
-    arg-count-requires
-    loop-holds
-    mul-judge
-    add-judge
-    judge-requires
-    add-case
-    loop-less
-    loop-again
-    returns)
+    (λ c κs. search needs)
+    (λ c. search needs)
+    (λ c. search needs)
+    (λ c. search needs)
+    (λ c κs. search needs)
+    (λ c. search needs)
+    (λ c. search needs)
+    (λ c. search needs)
+    (λ c. search needs))

@@ -12,37 +12,16 @@ Inv-loop g c first reached₀ round₀ reached round = Upto (rounds (childKind g
 abbrev μ-loop : tie.MeasureT-loop
 μ-loop g c first reached₀ round₀ reached round = kinds - round
 
-children-requires : tie.Need-children-requires Inv-loop μ-loop
-children-requires c κs = search laws
-
-loop-holds : tie.Need-loop-holds Inv-loop μ-loop
-loop-holds c = search laws
-
-children-requires-2 : tie.Need-children-requires-2 Inv-loop μ-loop
-children-requires-2 c κs = search laws
-
-add-round : tie.Need-add-round Inv-loop μ-loop
-add-round c = search laws
-
-loop-less : tie.Need-loop-less Inv-loop μ-loop
-loop-less c = search laws
-
-loop-again : tie.Need-loop-again Inv-loop μ-loop
-loop-again c = search laws
-
-returns : tie.Need-returns Inv-loop μ-loop
-returns c = search laws
-
 pub reachable-spec : {M : Type 1} → statement M
 reachable-spec =
     tie.close
     (tie.spec
     Inv-loop
     μ-loop
-    children-requires
-    loop-holds
-    children-requires-2
-    add-round
-    loop-less
-    loop-again
-    returns)
+    (λ c κs. search laws)
+    (λ c. search laws)
+    (λ c κs. search laws)
+    (λ c. search laws)
+    (λ c. search laws)
+    (λ c. search laws)
+    (λ c. search laws))

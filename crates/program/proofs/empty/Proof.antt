@@ -3,8 +3,5 @@ use Rattle.program.proofs.Laws.{refusal-laws}
 use Rattle.program.proofs.empty.Statement.{statement}
 use Rattle.program.proofs.empty.Tie as tie
 
-returns : tie.Need-returns
-returns c = search refusal-laws
-
 pub empty-spec : {M : Type 1} → statement M
-empty-spec = tie.close (tie.spec returns)
+empty-spec = tie.close (tie.spec (λ c. search refusal-laws))

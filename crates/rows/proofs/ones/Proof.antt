@@ -4,11 +4,6 @@ use borrow.Author.Needs.{needs}
 use Rattle.rows.proofs.Answers.{ones-tally}
 use Rattle.rows.proofs.ones.Statement.{statement}
 use Rattle.rows.proofs.ones.Tie as tie
-use Rattle.rows.proofs.ones.Reads as reads
-use Rattle.rows.proofs.ones.Lts as lts
-
-returns : tie.Need-returns
-returns c = (ones-tally 64 (c .args .word) (search needs), ones-le 64 (c .args .word) (search needs))
 
 pub ones-spec : {M : Type 1} → statement M
-ones-spec = tie.close (tie.spec returns)
+ones-spec = tie.close (tie.spec (λ c. (ones-tally 64 (c .args .word) (search needs), ones-le 64 (c .args .word) (search needs))))

@@ -17,49 +17,19 @@ abbrev μ-loop : tie.MeasureT-loop
 μ-loop g kept total end i₀ i =
     suc total - i
 
-loop-holds : tie.Need-loop-holds Inv-loop μ-loop
-loop-holds c = search judging-laws
-
-place-requires : tie.Need-place-requires Inv-loop μ-loop
-place-requires c κs = search judging-laws
-
-judge-element-requires : tie.Need-judge-element-requires Inv-loop μ-loop
-judge-element-requires c κs = search judging-laws
-
-enum-told : tie.Need-enum-told Inv-loop μ-loop
-enum-told c = search judging-laws
-
-enum-told-2 : tie.Need-enum-told-2 Inv-loop μ-loop
-enum-told-2 c = search judging-laws
-
-returns : tie.Need-returns Inv-loop μ-loop
-returns c = search judging-laws
-
-add-i : tie.Need-add-i Inv-loop μ-loop
-add-i c = search judging-laws
-
-loop-less : tie.Need-loop-less Inv-loop μ-loop
-loop-less c = search judging-laws
-
-loop-again : tie.Need-loop-again Inv-loop μ-loop
-loop-again c = search judging-laws
-
-returns-2 : tie.Need-returns-2 Inv-loop μ-loop
-returns-2 c = search judging-laws
-
 pub judge-elements-spec : {M : Type 1} → statement M
 judge-elements-spec =
     tie.close
     (tie.spec
     Inv-loop
     μ-loop
-    loop-holds
-    place-requires
-    judge-element-requires
-    enum-told
-    enum-told-2
-    returns
-    add-i
-    loop-less
-    loop-again
-    returns-2)
+    (λ c. search judging-laws)
+    (λ c κs. search judging-laws)
+    (λ c κs. search judging-laws)
+    (λ c. search judging-laws)
+    (λ c. search judging-laws)
+    (λ c. search judging-laws)
+    (λ c. search judging-laws)
+    (λ c. search judging-laws)
+    (λ c. search judging-laws)
+    (λ c. search judging-laws))

@@ -14,73 +14,25 @@ abbrev μ-loop : tie.MeasureT-loop
 μ-loop part kind count kept₀ times₀ before total₀ cursor₀ last₀ left₀ kept times total cursor last left =
     left
 
-start-requires : tie.Need-start-requires Inv-loop μ-loop
-start-requires c κs = search table-laws
-
-loop-holds : tie.Need-loop-holds Inv-loop μ-loop
-loop-holds c = search table-laws
-
-read-row-requires : tie.Need-read-row-requires Inv-loop μ-loop
-read-row-requires c κs = search table-laws
-
-enum-known-next : tie.Need-enum-known-next Inv-loop μ-loop
-enum-known-next c = search table-laws
-
-enum-told : tie.Need-enum-told Inv-loop μ-loop
-enum-told c = search table-laws
-
-same-length : tie.Need-same-length Inv-loop μ-loop
-same-length c = search table-laws
-
-same-length-2 : tie.Need-same-length-2 Inv-loop μ-loop
-same-length-2 c = search table-laws
-
-returns : tie.Need-returns Inv-loop μ-loop
-returns c = search table-laws
-
-keep-requires : tie.Need-keep-requires Inv-loop μ-loop
-keep-requires c κs = search table-laws
-
-add-total : tie.Need-add-total Inv-loop μ-loop
-add-total c = search table-laws
-
-sub-left : tie.Need-sub-left Inv-loop μ-loop
-sub-left c = search table-laws
-
-loop-less : tie.Need-loop-less Inv-loop μ-loop
-loop-less c = search table-laws
-
-loop-again : tie.Need-loop-again Inv-loop μ-loop
-loop-again c = search table-laws
-
-same-length-3 : tie.Need-same-length-3 Inv-loop μ-loop
-same-length-3 c = search table-laws
-
-same-length-4 : tie.Need-same-length-4 Inv-loop μ-loop
-same-length-4 c = search table-laws
-
-returns-2 : tie.Need-returns-2 Inv-loop μ-loop
-returns-2 c = search table-laws
-
 pub read-table-spec : {M : Type 1} → statement M
 read-table-spec =
     tie.close
     (tie.spec
     Inv-loop
     μ-loop
-    start-requires
-    loop-holds
-    read-row-requires
-    enum-known-next
-    enum-told
-    same-length
-    same-length-2
-    returns
-    keep-requires
-    add-total
-    sub-left
-    loop-less
-    loop-again
-    same-length-3
-    same-length-4
-    returns-2)
+    (λ c κs. search table-laws)
+    (λ c. search table-laws)
+    (λ c κs. search table-laws)
+    (λ c. search table-laws)
+    (λ c. search table-laws)
+    (λ c. search table-laws)
+    (λ c. search table-laws)
+    (λ c. search table-laws)
+    (λ c κs. search table-laws)
+    (λ c. search table-laws)
+    (λ c. search table-laws)
+    (λ c. search table-laws)
+    (λ c. search table-laws)
+    (λ c. search table-laws)
+    (λ c. search table-laws)
+    (λ c. search table-laws))

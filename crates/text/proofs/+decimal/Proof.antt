@@ -31,43 +31,16 @@ decimal-calls t = (
   decimal.Post,
 )
 
-decimal-digit-requires : (t : ℕ) → decimal-lts.Need-digit-requires (decimal-calls t) (decimal-at t) decimal.Post
-decimal-digit-requires t c κs = search laws
-
-decimal-byte-requires : (t : ℕ) → decimal-lts.Need-byte-requires (decimal-calls t) (decimal-at t) decimal.Post
-decimal-byte-requires t c κs = search laws
-
-decimal-same-length : (t : ℕ) → decimal-lts.Need-same-length (decimal-calls t) (decimal-at t) decimal.Post
-decimal-same-length t c = search laws
-
-decimal-returns : (t : ℕ) → decimal-lts.Need-returns (decimal-calls t) (decimal-at t) decimal.Post
-decimal-returns t c = search laws
-
-decimal-decimal-requires : (t : ℕ) → decimal-lts.Need-decimal-requires (decimal-calls t) (decimal-at t) decimal.Post
-decimal-decimal-requires t c κs = search laws
-
-decimal-digit-requires-2 : (t : ℕ) → decimal-lts.Need-digit-requires-2 (decimal-calls t) (decimal-at t) decimal.Post
-decimal-digit-requires-2 t c κs = search laws
-
-decimal-byte-requires-2 : (t : ℕ) → decimal-lts.Need-byte-requires-2 (decimal-calls t) (decimal-at t) decimal.Post
-decimal-byte-requires-2 t c κs = search laws
-
-decimal-same-length-2 : (t : ℕ) → decimal-lts.Need-same-length-2 (decimal-calls t) (decimal-at t) decimal.Post
-decimal-same-length-2 t c = search laws
-
-decimal-returns-2 : (t : ℕ) → decimal-lts.Need-returns-2 (decimal-calls t) (decimal-at t) decimal.Post
-decimal-returns-2 t c = search laws
-
 pub +decimal-spec : {M : Type 1} → statement M
 +decimal-spec = close μ-decimal λ t. decimal-lts.spec (decimal-calls t)
     (decimal-at t)
     decimal.Post
-    (decimal-digit-requires t)
-    (decimal-byte-requires t)
-    (decimal-same-length t)
-    (decimal-returns t)
-    (decimal-decimal-requires t)
-    (decimal-digit-requires-2 t)
-    (decimal-byte-requires-2 t)
-    (decimal-same-length-2 t)
-    (decimal-returns-2 t)
+    (λ c κs. search laws)
+    (λ c κs. search laws)
+    (λ c. search laws)
+    (λ c. search laws)
+    (λ c κs. search laws)
+    (λ c κs. search laws)
+    (λ c κs. search laws)
+    (λ c. search laws)
+    (λ c. search laws)

@@ -3,43 +3,16 @@ use Rattle.trammelbud.proofs.Told.{laws}
 use Rattle.trammelbud.proofs.tb_list.Statement.{statement}
 use Rattle.trammelbud.proofs.tb_list.Tie as tie
 
-read-requires : tie.Need-read-requires
-read-requires c κs = search laws
-
-enum-told : tie.Need-enum-told
-enum-told c = search laws
-
-list-under-requires : tie.Need-list-under-requires
-list-under-requires c κs = search laws
-
-enum-known-outcome : tie.Need-enum-known-outcome
-enum-known-outcome c = search laws
-
-turned-away-requires : tie.Need-turned-away-requires
-turned-away-requires c κs = search laws
-
-same-length : tie.Need-same-length
-same-length c = search laws
-
-same-length-2 : tie.Need-same-length-2
-same-length-2 c = search laws
-
-returns : tie.Need-returns
-returns c = search laws
-
-returns-2 : tie.Need-returns-2
-returns-2 c = search laws
-
 pub tb-list-spec : {M : Type 1} → statement M
 tb-list-spec =
     tie.close
     (tie.spec
-    read-requires
-    enum-told
-    list-under-requires
-    enum-known-outcome
-    turned-away-requires
-    same-length
-    same-length-2
-    returns
-    returns-2)
+    (λ c κs. search laws)
+    (λ c. search laws)
+    (λ c κs. search laws)
+    (λ c. search laws)
+    (λ c κs. search laws)
+    (λ c. search laws)
+    (λ c. search laws)
+    (λ c. search laws)
+    (λ c. search laws))

@@ -4,35 +4,14 @@ use Rattle.trammelbud.proofs.Laws.{laws}
 use Rattle.trammelbud.proofs.tb_read_query.Statement.{statement}
 use Rattle.trammelbud.proofs.tb_read_query.Tie as tie
 
-read-requires : tie.Need-read-requires
-read-requires c κs = search needs
-
-enum-told : tie.Need-enum-told
-enum-told c = search needs
-
-query-under-requires : tie.Need-query-under-requires
-query-under-requires c κs = search needs
-
-enum-known-outcome : tie.Need-enum-known-outcome
-enum-known-outcome c = search needs
-
-turned-away-requires : tie.Need-turned-away-requires
-turned-away-requires c κs = search needs
-
-returns : tie.Need-returns
-returns c = search laws
-
-returns-2 : tie.Need-returns-2
-returns-2 c = search laws
-
 pub tb-read-query-spec : {M : Type 1} → statement M
 tb-read-query-spec =
     tie.close
     (tie.spec
-    read-requires
-    enum-told
-    query-under-requires
-    enum-known-outcome
-    turned-away-requires
-    returns
-    returns-2)
+    (λ c κs. search needs)
+    (λ c. search needs)
+    (λ c κs. search needs)
+    (λ c. search needs)
+    (λ c κs. search needs)
+    (λ c. search laws)
+    (λ c. search laws))

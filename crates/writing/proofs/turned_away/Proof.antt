@@ -3,11 +3,5 @@ use Rattle.writing.proofs.Puts.{laws}
 use Rattle.writing.proofs.turned_away.Statement.{statement}
 use Rattle.writing.proofs.turned_away.Tie as tie
 
-number-requires : tie.Need-number-requires
-number-requires c κs = search laws
-
-returns : tie.Need-returns
-returns c = search laws
-
 pub turned-away-spec : {M : Type 1} → statement M
-turned-away-spec = tie.close (tie.spec number-requires returns)
+turned-away-spec = tie.close (tie.spec (λ c κs. search laws) (λ c. search laws))

@@ -15,37 +15,16 @@ Inv-loop out₀ at document k next₀ t₀ out next t = (t ≤ k) × (length out
 abbrev μ-loop : tie.MeasureT-loop
 μ-loop out₀ at document k next₀ t₀ out next t = k - t
 
-loop-holds : tie.Need-loop-holds Inv-loop μ-loop
-loop-holds c = search laws
-
-write-table-requires : tie.Need-write-table-requires Inv-loop μ-loop
-write-table-requires c κs = search laws
-
-add-t : tie.Need-add-t Inv-loop μ-loop
-add-t c = search laws
-
-loop-less : tie.Need-loop-less Inv-loop μ-loop
-loop-less c = search laws
-
-loop-again : tie.Need-loop-again Inv-loop μ-loop
-loop-again c = search laws
-
-same-length : tie.Need-same-length Inv-loop μ-loop
-same-length c = search laws
-
-returns : tie.Need-returns Inv-loop μ-loop
-returns c = search laws
-
 pub write-tables-spec : {M : Type 1} → statement M
 write-tables-spec =
     tie.close
     (tie.spec
     Inv-loop
     μ-loop
-    loop-holds
-    write-table-requires
-    add-t
-    loop-less
-    loop-again
-    same-length
-    returns)
+    (λ c. search laws)
+    (λ c κs. search laws)
+    (λ c. search laws)
+    (λ c. search laws)
+    (λ c. search laws)
+    (λ c. search laws)
+    (λ c. search laws))

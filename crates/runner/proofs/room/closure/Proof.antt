@@ -6,28 +6,12 @@ use borrow.Author.Needs.{needs}
 use Rattle.runner.proofs.Closings.{Closes, closes-one, closes-more, closes-closed, closes-all, closed-from}
 use Rattle.runner.proofs.room.closure.Statement.{statement}
 use Rattle.runner.proofs.room.closure.Tie as tie
-use Rattle.runner.proofs.room.closure.Reads as reads
-use Rattle.runner.proofs.room.closure.Lts as lts
-use Rattle.runner.proofs.room.mix.Reads as mix-reads
-use Rattle.runner.proofs.room.sweep.Reads as sweep-reads
 
 abbrev Inv-loop : tie.InvT-loop
 Inv-loop work₀ base a size steps₀ work steps = Closes 16 work₀ work base a size steps
 
 abbrev μ-loop : tie.MeasureT-loop
 μ-loop work₀ base a size steps₀ work steps = size - steps
-
-mix-requires : tie.Need-mix-requires Inv-loop μ-loop
-mix-requires c κs = search needs
-
-loop-holds : tie.Need-loop-holds Inv-loop μ-loop
-loop-holds c = let m = c .before .before in closes-one 16 (m .before .before .before .pre) (m .mix .ensures)
-
-sweep-requires : tie.Need-sweep-requires Inv-loop μ-loop
-sweep-requires c κs = let l = c .before .before .loop .inv in places-kept 16 (l .others) (l .asked .places)
-
-same-length : tie.Need-same-length Inv-loop μ-loop
-same-length c = search needs
 
 returns : tie.Need-returns Inv-loop μ-loop
 returns c =
@@ -36,20 +20,11 @@ returns c =
     let m = l .before .before .before in
     closed-from 16 (m .before .before .before .pre) (m .mix .ensures) (closes-closed 16 (l .loop .inv) (s .sweep .ensures) (not-true _ (c .if1 .taken)))
 
-add-steps : tie.Need-add-steps Inv-loop μ-loop
-add-steps c = search needs
-
-loop-less : tie.Need-loop-less Inv-loop μ-loop
-loop-less c = search needs
-
 loop-again : tie.Need-loop-again Inv-loop μ-loop
 loop-again c =
     let s = c .before .before .before in
     let i = s .before .before in
     closes-more 16 (i .before .loop .inv) (s .sweep .ensures) (i .loop-test .taken)
-
-same-length-2 : tie.Need-same-length-2 Inv-loop μ-loop
-same-length-2 c = search needs
 
 returns-2 : tie.Need-returns-2 Inv-loop μ-loop
 returns-2 c =
@@ -63,13 +38,13 @@ closure-spec =
     (tie.spec
     Inv-loop
     μ-loop
-    mix-requires
-    loop-holds
-    sweep-requires
-    same-length
+    (λ c κs. search needs)
+    (λ c. let m = c .before .before in closes-one 16 (m .before .before .before .pre) (m .mix .ensures))
+    (λ c κs. let l = c .before .before .loop .inv in places-kept 16 (l .others) (l .asked .places))
+    (λ c. search needs)
     returns
-    add-steps
-    loop-less
+    (λ c. search needs)
+    (λ c. search needs)
     loop-again
-    same-length-2
+    (λ c. search needs)
     returns-2)

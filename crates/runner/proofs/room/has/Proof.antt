@@ -9,12 +9,6 @@ use borrow.Author.Needs.{needs}
 use Rattle.runner.proofs.Rooms.{places-kept, rows-none, rows-all, made-after-of}
 use Rattle.runner.proofs.room.has.Statement.{statement}
 use Rattle.runner.proofs.room.has.Tie as tie
-use Rattle.runner.proofs.room.has.Reads as reads
-use Rattle.runner.proofs.room.has.Lts as lts
-use Rattle.runner.proofs.room.clear.Reads as clear-reads
-use Rattle.rows.proofs.next.Reads as next-reads
-use Rattle.rows.proofs.put.Reads as put-reads
-use Rattle.rows.proofs.read.Reads as read-reads
 
 abbrev Inv-loop : tie.InvT-loop
 Inv-loop work₀ base a size v₀ work v = (v ≤ size) × Places 16 (length work₀) base a a size × Made 16 work₀ work base (upTo v (has size (rowsAt 16 work₀ a)))
@@ -22,41 +16,11 @@ Inv-loop work₀ base a size v₀ work v = (v ≤ size) × Places 16 (length wor
 abbrev μ-loop : tie.MeasureT-loop
 μ-loop work₀ base a size v₀ work v = size - v
 
-clear-requires : tie.Need-clear-requires Inv-loop μ-loop
-clear-requires c κs = search needs
-
 loop-holds : tie.Need-loop-holds Inv-loop μ-loop
 loop-holds c =
     let k = c .before .before in
     let p = k .before .before .before .pre in
     (search needs, places-kept 16 (k .clear .ensures .others) p, rows-none 16 _ (k .clear .ensures))
-
-mul-read : tie.Need-mul-read Inv-loop μ-loop
-mul-read c = search needs
-
-add-read : tie.Need-add-read Inv-loop μ-loop
-add-read c = search needs
-
-read-requires : tie.Need-read-requires Inv-loop μ-loop
-read-requires c κs = search needs
-
-next-requires : tie.Need-next-requires Inv-loop μ-loop
-next-requires c κs = search needs
-
-mul-put : tie.Need-mul-put Inv-loop μ-loop
-mul-put c = search needs
-
-add-put : tie.Need-add-put Inv-loop μ-loop
-add-put c = search needs
-
-put-requires : tie.Need-put-requires Inv-loop μ-loop
-put-requires c κs = search needs
-
-add-v : tie.Need-add-v Inv-loop μ-loop
-add-v c = search needs
-
-loop-less : tie.Need-loop-less Inv-loop μ-loop
-loop-less c = search needs
 
 loop-again : tie.Need-loop-again Inv-loop μ-loop
 loop-again c =
@@ -66,9 +30,6 @@ loop-again c =
     let i = a .before .before in
     let l = i .before .loop .inv in
     (search needs, l .1, has-more 16 _ (l .1) (i .loop-test .taken) (l .2) (a .read .ensures) (n .next .ensures) (k .put .ensures))
-
-same-length : tie.Need-same-length Inv-loop μ-loop
-same-length c = search needs
 
 returns : tie.Need-returns Inv-loop μ-loop
 returns c =
@@ -84,17 +45,17 @@ has-spec =
     (tie.spec
     Inv-loop
     μ-loop
-    clear-requires
+    (λ c κs. search needs)
     loop-holds
-    mul-read
-    add-read
-    read-requires
-    next-requires
-    mul-put
-    add-put
-    put-requires
-    add-v
-    loop-less
+    (λ c. search needs)
+    (λ c. search needs)
+    (λ c κs. search needs)
+    (λ c κs. search needs)
+    (λ c. search needs)
+    (λ c. search needs)
+    (λ c κs. search needs)
+    (λ c. search needs)
+    (λ c. search needs)
     loop-again
-    same-length
+    (λ c. search needs)
     returns)

@@ -10,14 +10,6 @@ use Rattle.runner.proofs.Rooms.{places-kept, rows-none, rows-all, made-
 use Rattle.runner.proofs.Turns.{starting, starts-kept, join-more}
 use Rattle.runner.proofs.room.join.Statement.{statement}
 use Rattle.runner.proofs.room.join.Tie as tie
-use Rattle.runner.proofs.room.join.Reads as reads
-use Rattle.runner.proofs.room.join.Lts as lts
-use Rattle.runner.proofs.room.clear.Reads as clear-reads
-use Rattle.runner.proofs.room.starts.Reads as starts-reads
-use Rattle.rows.proofs.gather.Reads as gather-reads
-use Rattle.rows.proofs.mixed.Reads as mixed-reads
-use Rattle.rows.proofs.read.Reads as read-reads
-use Rattle.rows.proofs.write.Reads as write-reads
 
 abbrev Inv-loop : tie.InvT-loop
 Inv-loop work₀ base a b size there v₀ work v = (v ≤ size) × Places 16 (length work₀) base a b size × Bits there (starting 16 work₀ b size) × Made 16 work₀ work base (upTo v (join size (rowsAt 16 work₀ a) (rowsAt 16 work₀ b)))
@@ -25,48 +17,12 @@ Inv-loop work₀ base a b size there v₀ work v = (v ≤ size) × Places 16 (le
 abbrev μ-loop : tie.MeasureT-loop
 μ-loop work₀ base a b size there v₀ work v = size - v
 
-starts-requires : tie.Need-starts-requires Inv-loop μ-loop
-starts-requires c κs = search needs
-
-clear-requires : tie.Need-clear-requires Inv-loop μ-loop
-clear-requires c κs = search needs
-
 loop-holds : tie.Need-loop-holds Inv-loop μ-loop
 loop-holds c =
     let k = c .before .before in
     let s = k .before .before in
     let p = s .before .before .before .pre in
     (search needs, places-kept 16 (k .clear .ensures .others) p, starts-kept 16 (k .clear .ensures) p (s .starts .ensures), rows-none 16 _ (k .clear .ensures))
-
-mul-read : tie.Need-mul-read Inv-loop μ-loop
-mul-read c = search needs
-
-add-read : tie.Need-add-read Inv-loop μ-loop
-add-read c = search needs
-
-read-requires : tie.Need-read-requires Inv-loop μ-loop
-read-requires c κs = search needs
-
-mixed-requires : tie.Need-mixed-requires Inv-loop μ-loop
-mixed-requires c κs = search needs
-
-gather-requires : tie.Need-gather-requires Inv-loop μ-loop
-gather-requires c κs = search needs
-
-mul-write : tie.Need-mul-write Inv-loop μ-loop
-mul-write c = search needs
-
-add-write : tie.Need-add-write Inv-loop μ-loop
-add-write c = search needs
-
-write-requires : tie.Need-write-requires Inv-loop μ-loop
-write-requires c κs = search needs
-
-add-v : tie.Need-add-v Inv-loop μ-loop
-add-v c = search needs
-
-loop-less : tie.Need-loop-less Inv-loop μ-loop
-loop-less c = search needs
 
 loop-again : tie.Need-loop-again Inv-loop μ-loop
 loop-again c =
@@ -77,9 +33,6 @@ loop-again c =
     let i = a .before .before in
     let l = i .before .loop .inv in
     (search needs, l .1, l .2, join-more 16 _ (l .1) (i .loop-test .taken) _ _ (l .2) (l .3) (a .read .ensures) (m .mixed .ensures) (row-blank 2) (g .gather .ensures) (k .write .ensures))
-
-same-length : tie.Need-same-length Inv-loop μ-loop
-same-length c = search needs
 
 returns : tie.Need-returns Inv-loop μ-loop
 returns c =
@@ -94,19 +47,19 @@ join-spec =
     (tie.spec
     Inv-loop
     μ-loop
-    starts-requires
-    clear-requires
+    (λ c κs. search needs)
+    (λ c κs. search needs)
     loop-holds
-    mul-read
-    add-read
-    read-requires
-    mixed-requires
-    gather-requires
-    mul-write
-    add-write
-    write-requires
-    add-v
-    loop-less
+    (λ c. search needs)
+    (λ c. search needs)
+    (λ c κs. search needs)
+    (λ c κs. search needs)
+    (λ c κs. search needs)
+    (λ c. search needs)
+    (λ c. search needs)
+    (λ c κs. search needs)
+    (λ c. search needs)
+    (λ c. search needs)
     loop-again
-    same-length
+    (λ c. search needs)
     returns)

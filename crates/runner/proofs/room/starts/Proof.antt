@@ -8,41 +8,12 @@ use Rattle.rows.proofs.Rows.{row-blank}
 use Rattle.runner.proofs.Turns.{starting, starts-none, starts-more}
 use Rattle.runner.proofs.room.starts.Statement.{statement}
 use Rattle.runner.proofs.room.starts.Tie as tie
-use Rattle.runner.proofs.room.starts.Reads as reads
-use Rattle.runner.proofs.room.starts.Lts as lts
-use Rattle.rows.proofs.next.Reads as next-reads
-use Rattle.rows.proofs.read.Reads as read-reads
-use Rattle.rows.proofs.with.Reads as with-reads
 
 abbrev Inv-loop : tie.InvT-loop
 Inv-loop work a size all₀ v₀ all v = (v ≤ size) × Bits all (starting 16 work a v)
 
 abbrev μ-loop : tie.MeasureT-loop
 μ-loop work a size all₀ v₀ all v = size - v
-
-loop-holds : tie.Need-loop-holds Inv-loop μ-loop
-loop-holds c = (search needs, starts-none 16 _ _ (row-blank 2))
-
-mul-read : tie.Need-mul-read Inv-loop μ-loop
-mul-read c = search needs
-
-add-read : tie.Need-add-read Inv-loop μ-loop
-add-read c = search needs
-
-read-requires : tie.Need-read-requires Inv-loop μ-loop
-read-requires c κs = search needs
-
-next-requires : tie.Need-next-requires Inv-loop μ-loop
-next-requires c κs = search needs
-
-with-requires : tie.Need-with-requires Inv-loop μ-loop
-with-requires c κs = search needs
-
-add-v : tie.Need-add-v Inv-loop μ-loop
-add-v c = search needs
-
-loop-less : tie.Need-loop-less Inv-loop μ-loop
-loop-less c = search needs
 
 loop-again : tie.Need-loop-again Inv-loop μ-loop
 loop-again c =
@@ -59,13 +30,13 @@ starts-spec =
     (tie.spec
     Inv-loop
     μ-loop
-    loop-holds
-    mul-read
-    add-read
-    read-requires
-    next-requires
-    with-requires
-    add-v
-    loop-less
+    (λ c. (search needs, starts-none 16 _ _ (row-blank 2)))
+    (λ c. search needs)
+    (λ c. search needs)
+    (λ c κs. search needs)
+    (λ c κs. search needs)
+    (λ c κs. search needs)
+    (λ c. search needs)
+    (λ c. search needs)
     loop-again
     returns)

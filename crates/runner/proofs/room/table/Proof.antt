@@ -11,10 +11,6 @@ use borrow.Author.Needs.{needs}
 use Rattle.runner.proofs.Elements.{parent-below, kind-below, table-first, table-more, table-all}
 use Rattle.runner.proofs.room.table.Statement.{statement}
 use Rattle.runner.proofs.room.table.Tie as tie
-use Rattle.runner.proofs.room.table.Reads as reads
-use Rattle.runner.proofs.room.table.Lts as lts
-use Rattle.runner.proofs.room.clear.Reads as clear-reads
-use Rattle.runner.proofs.room.put_child.Reads as put-child-reads
 
 abbrev Inv-loop : tie.InvT-loop
 Inv-loop work₀ base mask document w₀ work w = (1 ≤ w) × (w ≤ document .count + 1) × (base + 2048 ≤ length work₀) × Nodes document × Made 16 work₀ work base (columns w (rows (shown document) [] (Table mask)))
@@ -22,23 +18,11 @@ Inv-loop work₀ base mask document w₀ work w = (1 ≤ w) × (w ≤ document .
 abbrev μ-loop : tie.MeasureT-loop
 μ-loop work₀ base mask document w₀ work w = document .count + 1 - w
 
-clear-requires : tie.Need-clear-requires Inv-loop μ-loop
-clear-requires c κs = search needs
-
 loop-holds : tie.Need-loop-holds Inv-loop μ-loop
 loop-holds c =
     let k = c .before .before in
     let n = k .before .before .before .pre .1 in
     (search needs, search needs, search needs, n, table-first _ n 16 _ (k .clear .ensures))
-
-sub-element : tie.Need-sub-element Inv-loop μ-loop
-sub-element c = search needs
-
-mul-element : tie.Need-mul-element Inv-loop μ-loop
-mul-element c = search needs
-
-element-copy-out-element : tie.Need-element-copy-out-element Inv-loop μ-loop
-element-copy-out-element c = search needs
 
 put-child-requires : tie.Need-put-child-requires Inv-loop μ-loop
 put-child-requires c κs =
@@ -47,21 +31,12 @@ put-child-requires c κs =
     let p = parent-below _ (l .3) _ (l .0) (i .loop-test .taken) in
     (search needs, search needs, search needs, kind-below _ (l .3) _ (l .0) (i .loop-test .taken))
 
-add-w : tie.Need-add-w Inv-loop μ-loop
-add-w c = search needs
-
-loop-less : tie.Need-loop-less Inv-loop μ-loop
-loop-less c = search needs
-
 loop-again : tie.Need-loop-again Inv-loop μ-loop
 loop-again c =
     let k = c .before .before in
     let i = k .before .before .before in
     let l = i .before .loop .inv in
     (search needs, search needs, l .2, l .3, table-more _ (l .3) _ (l .0) (i .loop-test .taken) 16 _ (search needs) (l .2) (l .4) (k .put-child .ensures))
-
-same-length : tie.Need-same-length Inv-loop μ-loop
-same-length c = search needs
 
 returns : tie.Need-returns Inv-loop μ-loop
 returns c =
@@ -74,14 +49,14 @@ table-spec =
     (tie.spec
     Inv-loop
     μ-loop
-    clear-requires
+    (λ c κs. search needs)
     loop-holds
-    sub-element
-    mul-element
-    element-copy-out-element
+    (λ c. search needs)
+    (λ c. search needs)
+    (λ c. search needs)
     put-child-requires
-    add-w
-    loop-less
+    (λ c. search needs)
+    (λ c. search needs)
     loop-again
-    same-length
+    (λ c. search needs)
     returns)

@@ -10,10 +10,6 @@ use borrow.Author.Needs.{needs}
 use Rattle.runner.proofs.Elements.{text-first, text-more, text-all}
 use Rattle.runner.proofs.room.text.Statement.{statement}
 use Rattle.runner.proofs.room.text.Tie as tie
-use Rattle.runner.proofs.room.text.Reads as reads
-use Rattle.runner.proofs.room.text.Lts as lts
-use Rattle.runner.proofs.room.clear.Reads as clear-reads
-use Rattle.rows.proofs.put.Reads as put-reads
 
 abbrev Inv-loop : tie.InvT-loop
 Inv-loop work₀ base number document v₀ work v = (1 ≤ v) × (v ≤ document .count + 1) × (base + 2048 ≤ length work₀) × Nodes document × Made 16 work₀ work base (upTo v (rows (shown document) [] (Text number)))
@@ -21,38 +17,11 @@ Inv-loop work₀ base number document v₀ work v = (1 ≤ v) × (v ≤ document
 abbrev μ-loop : tie.MeasureT-loop
 μ-loop work₀ base number document v₀ work v = document .count + 1 - v
 
-clear-requires : tie.Need-clear-requires Inv-loop μ-loop
-clear-requires c κs = search needs
-
 loop-holds : tie.Need-loop-holds Inv-loop μ-loop
 loop-holds c =
     let k = c .before .before in
     let n = k .before .before .before .pre .1 in
     (search needs, search needs, search needs, n, text-first _ n 16 _ (k .clear .ensures))
-
-sub-element : tie.Need-sub-element Inv-loop μ-loop
-sub-element c = search needs
-
-mul-element : tie.Need-mul-element Inv-loop μ-loop
-mul-element c = search needs
-
-element-copy-out-element : tie.Need-element-copy-out-element Inv-loop μ-loop
-element-copy-out-element c = search needs
-
-mul-put : tie.Need-mul-put Inv-loop μ-loop
-mul-put c = search needs
-
-add-put : tie.Need-add-put Inv-loop μ-loop
-add-put c = search needs
-
-put-requires : tie.Need-put-requires Inv-loop μ-loop
-put-requires c κs = search needs
-
-add-v : tie.Need-add-v Inv-loop μ-loop
-add-v c = search needs
-
-loop-less : tie.Need-loop-less Inv-loop μ-loop
-loop-less c = search needs
 
 loop-again : tie.Need-loop-again Inv-loop μ-loop
 loop-again c =
@@ -60,9 +29,6 @@ loop-again c =
     let i = k .before .before .before .before in
     let l = i .before .loop .inv in
     (search needs, search needs, l .2, l .3, text-more _ (l .3) _ (l .0) (i .loop-test .taken) 16 _ (search needs) (l .2) (l .4) (k .put .ensures))
-
-same-length : tie.Need-same-length Inv-loop μ-loop
-same-length c = search needs
 
 returns : tie.Need-returns Inv-loop μ-loop
 returns c =
@@ -75,16 +41,16 @@ text-spec =
     (tie.spec
     Inv-loop
     μ-loop
-    clear-requires
+    (λ c κs. search needs)
     loop-holds
-    sub-element
-    mul-element
-    element-copy-out-element
-    mul-put
-    add-put
-    put-requires
-    add-v
-    loop-less
+    (λ c. search needs)
+    (λ c. search needs)
+    (λ c. search needs)
+    (λ c. search needs)
+    (λ c. search needs)
+    (λ c κs. search needs)
+    (λ c. search needs)
+    (λ c. search needs)
     loop-again
-    same-length
+    (λ c. search needs)
     returns)

@@ -247,246 +247,6 @@ then-qualifier-calls t = (
   join-reads.Learnt,
 )
 
-and-qualifier-qualifier-requires : (t : ℕ) → and-qualifier-lts.Need-qualifier-requires (and-qualifier-calls t) (and-qualifier-at t) and-qualifier.Post
-and-qualifier-qualifier-requires t c κs = search calls
-
-and-qualifier-both-requires : (t : ℕ) → and-qualifier-lts.Need-both-requires (and-qualifier-calls t) (and-qualifier-at t) and-qualifier.Post
-and-qualifier-both-requires t c κs = search calls
-
-and-qualifier-same-length : (t : ℕ) → and-qualifier-lts.Need-same-length (and-qualifier-calls t) (and-qualifier-at t) and-qualifier.Post
-and-qualifier-same-length t c = search calls
-
-and-qualifier-returns : (t : ℕ) → and-qualifier-lts.Need-returns (and-qualifier-calls t) (and-qualifier-at t) and-qualifier.Post
-and-qualifier-returns t c = search calls
-
-below-path-below-requires : (t : ℕ) → below-path-lts.Need-below-requires (below-path-calls t) (below-path-at t) below-path.Post
-below-path-below-requires t c κs = search calls
-
-below-path-then-path-requires : (t : ℕ) → below-path-lts.Need-then-path-requires (below-path-calls t) (below-path-at t) below-path.Post
-below-path-then-path-requires t c κs = search calls
-
-below-path-same-length : (t : ℕ) → below-path-lts.Need-same-length (below-path-calls t) (below-path-at t) below-path.Post
-below-path-same-length t c = search calls
-
-below-path-returns : (t : ℕ) → below-path-lts.Need-returns (below-path-calls t) (below-path-at t) below-path.Post
-below-path-returns t c = search calls
-
-or-path-among-requires : (t : ℕ) → or-path-lts.Need-among-requires (or-path-calls t) (or-path-at t) or-path.Post
-or-path-among-requires t c κs = search calls
-
-or-path-path-requires : (t : ℕ) → or-path-lts.Need-path-requires (or-path-calls t) (or-path-at t) or-path.Post
-or-path-path-requires t c κs = search calls
-
-or-path-among-requires-2 : (t : ℕ) → or-path-lts.Need-among-requires-2 (or-path-calls t) (or-path-at t) or-path.Post
-or-path-among-requires-2 t c κs = search calls
-
-or-path-union-requires : (t : ℕ) → or-path-lts.Need-union-requires (or-path-calls t) (or-path-at t) or-path.Post
-or-path-union-requires t c κs = search calls
-
-or-path-same-length : (t : ℕ) → or-path-lts.Need-same-length (or-path-calls t) (or-path-at t) or-path.Post
-or-path-same-length t c = search calls
-
-or-path-returns : (t : ℕ) → or-path-lts.Need-returns (or-path-calls t) (or-path-at t) or-path.Post
-or-path-returns t c = search calls
-
-or-qualifier-qualifier-requires : (t : ℕ) → or-qualifier-lts.Need-qualifier-requires (or-qualifier-calls t) (or-qualifier-at t) or-qualifier.Post
-or-qualifier-qualifier-requires t c κs = search calls
-
-or-qualifier-union-requires : (t : ℕ) → or-qualifier-lts.Need-union-requires (or-qualifier-calls t) (or-qualifier-at t) or-qualifier.Post
-or-qualifier-union-requires t c κs = search calls
-
-or-qualifier-same-length : (t : ℕ) → or-qualifier-lts.Need-same-length (or-qualifier-calls t) (or-qualifier-at t) or-qualifier.Post
-or-qualifier-same-length t c = search calls
-
-or-qualifier-returns : (t : ℕ) → or-qualifier-lts.Need-returns (or-qualifier-calls t) (or-qualifier-at t) or-qualifier.Post
-or-qualifier-returns t c = search calls
-
-path-cast-at : (t : ℕ) → path-lts.Need-cast-at (path-calls t) (path-at t) path.Post
-path-cast-at t c = search calls
-
-path-shared-slice-read-code : (t : ℕ) → path-lts.Need-shared-slice-read-code (path-calls t) (path-at t) path.Post
-path-shared-slice-read-code t c = search calls
-
-path-behind-requires : (t : ℕ) → path-lts.Need-behind-requires (path-calls t) (path-at t) path.Post
-path-behind-requires t c κs = search calls
-
-path-add-requires : (t : ℕ) → path-lts.Need-add-requires (path-calls t) (path-at t) path.Post
-path-add-requires t c κs = search calls
-
-path-same-length : (t : ℕ) → path-lts.Need-same-length (path-calls t) (path-at t) path.Post
-path-same-length t c = search calls
-
-path-returns : (t : ℕ) → path-lts.Need-returns (path-calls t) (path-at t) path.Post
-path-returns t c = search calls
-
-path-to-child-requires : (t : ℕ) → path-lts.Need-to-child-requires (path-calls t) (path-at t) path.Post
-path-to-child-requires t c κs = search calls
-
-path-table-requires : (t : ℕ) → path-lts.Need-table-requires (path-calls t) (path-at t) path.Post
-path-table-requires t c κs = search calls
-
-path-same-length-2 : (t : ℕ) → path-lts.Need-same-length-2 (path-calls t) (path-at t) path.Post
-path-same-length-2 t c = search calls
-
-path-returns-2 : (t : ℕ) → path-lts.Need-returns-2 (path-calls t) (path-at t) path.Post
-path-returns-2 t c = search calls
-
-path-to-children-requires : (t : ℕ) → path-lts.Need-to-children-requires (path-calls t) (path-at t) path.Post
-path-to-children-requires t c κs = search calls
-
-path-table-requires-2 : (t : ℕ) → path-lts.Need-table-requires-2 (path-calls t) (path-at t) path.Post
-path-table-requires-2 t c κs = search calls
-
-path-same-length-3 : (t : ℕ) → path-lts.Need-same-length-3 (path-calls t) (path-at t) path.Post
-path-same-length-3 t c = search calls
-
-path-returns-3 : (t : ℕ) → path-lts.Need-returns-3 (path-calls t) (path-at t) path.Post
-path-returns-3 t c = search calls
-
-path-path-requires : (t : ℕ) → path-lts.Need-path-requires (path-calls t) (path-at t) path.Post
-path-path-requires t c κs = search calls
-
-path-then-path-requires : (t : ℕ) → path-lts.Need-then-path-requires (path-calls t) (path-at t) path.Post
-path-then-path-requires t c κs = (search slash-falls, search slash-second)
-
-path-below-path-requires : (t : ℕ) → path-lts.Need-below-path-requires (path-calls t) (path-at t) path.Post
-path-below-path-requires t c κs = (search slashes-falls, search slashes-deeper)
-
-path-or-path-requires : (t : ℕ) → path-lts.Need-or-path-requires (path-calls t) (path-at t) path.Post
-path-or-path-requires t c κs = (search union-falls, search union-second)
-
-path-then-qualifier-requires : (t : ℕ) → path-lts.Need-then-qualifier-requires (path-calls t) (path-at t) path.Post
-path-then-qualifier-requires t c κs = (search filter-falls, search filter-second)
-
-path-same-length-4 : (t : ℕ) → path-lts.Need-same-length-4 (path-calls t) (path-at t) path.Post
-path-same-length-4 t c = search calls
-
-path-returns-4 : (t : ℕ) → path-lts.Need-returns-4 (path-calls t) (path-at t) path.Post
-path-returns-4 t c = search calls
-
-path-same-length-5 : (t : ℕ) → path-lts.Need-same-length-5 (path-calls t) (path-at t) path.Post
-path-same-length-5 t c = search calls
-
-path-returns-5 : (t : ℕ) → path-lts.Need-returns-5 (path-calls t) (path-at t) path.Post
-path-returns-5 t c = search calls
-
-path-same-length-6 : (t : ℕ) → path-lts.Need-same-length-6 (path-calls t) (path-at t) path.Post
-path-same-length-6 t c = search calls
-
-path-returns-6 : (t : ℕ) → path-lts.Need-returns-6 (path-calls t) (path-at t) path.Post
-path-returns-6 t c = search calls
-
-path-same-length-7 : (t : ℕ) → path-lts.Need-same-length-7 (path-calls t) (path-at t) path.Post
-path-same-length-7 t c = search calls
-
-path-returns-7 : (t : ℕ) → path-lts.Need-returns-7 (path-calls t) (path-at t) path.Post
-path-returns-7 t c = search calls
-
-path-same-length-8 : (t : ℕ) → path-lts.Need-same-length-8 (path-calls t) (path-at t) path.Post
-path-same-length-8 t c = search calls
-
-path-returns-8 : (t : ℕ) → path-lts.Need-returns-8 (path-calls t) (path-at t) path.Post
-path-returns-8 t c = search calls
-
-qualifier-cast-at : (t : ℕ) → qualifier-lts.Need-cast-at (qualifier-calls t) (qualifier-at t) qualifier.Post
-qualifier-cast-at t c = search calls
-
-qualifier-shared-slice-read-code : (t : ℕ) → qualifier-lts.Need-shared-slice-read-code (qualifier-calls t) (qualifier-at t) qualifier.Post
-qualifier-shared-slice-read-code t c = search calls
-
-qualifier-behind-requires : (t : ℕ) → qualifier-lts.Need-behind-requires (qualifier-calls t) (qualifier-at t) qualifier.Post
-qualifier-behind-requires t c κs = search calls
-
-qualifier-path-requires : (t : ℕ) → qualifier-lts.Need-path-requires (qualifier-calls t) (qualifier-at t) qualifier.Post
-qualifier-path-requires t c κs = search calls
-
-qualifier-among-requires : (t : ℕ) → qualifier-lts.Need-among-requires (qualifier-calls t) (qualifier-at t) qualifier.Post
-qualifier-among-requires t c κs = search calls
-
-qualifier-has-requires : (t : ℕ) → qualifier-lts.Need-has-requires (qualifier-calls t) (qualifier-at t) qualifier.Post
-qualifier-has-requires t c κs = search calls
-
-qualifier-same-length : (t : ℕ) → qualifier-lts.Need-same-length (qualifier-calls t) (qualifier-at t) qualifier.Post
-qualifier-same-length t c = search calls
-
-qualifier-returns : (t : ℕ) → qualifier-lts.Need-returns (qualifier-calls t) (qualifier-at t) qualifier.Post
-qualifier-returns t c = search calls
-
-qualifier-behind-requires-2 : (t : ℕ) → qualifier-lts.Need-behind-requires-2 (qualifier-calls t) (qualifier-at t) qualifier.Post
-qualifier-behind-requires-2 t c κs = search calls
-
-qualifier-text-requires : (t : ℕ) → qualifier-lts.Need-text-requires (qualifier-calls t) (qualifier-at t) qualifier.Post
-qualifier-text-requires t c κs = search calls
-
-qualifier-add-requires : (t : ℕ) → qualifier-lts.Need-add-requires (qualifier-calls t) (qualifier-at t) qualifier.Post
-qualifier-add-requires t c κs = search calls
-
-qualifier-same-length-2 : (t : ℕ) → qualifier-lts.Need-same-length-2 (qualifier-calls t) (qualifier-at t) qualifier.Post
-qualifier-same-length-2 t c = search calls
-
-qualifier-returns-2 : (t : ℕ) → qualifier-lts.Need-returns-2 (qualifier-calls t) (qualifier-at t) qualifier.Post
-qualifier-returns-2 t c = search calls
-
-qualifier-qualifier-requires : (t : ℕ) → qualifier-lts.Need-qualifier-requires (qualifier-calls t) (qualifier-at t) qualifier.Post
-qualifier-qualifier-requires t c κs = search calls
-
-qualifier-not-requires : (t : ℕ) → qualifier-lts.Need-not-requires (qualifier-calls t) (qualifier-at t) qualifier.Post
-qualifier-not-requires t c κs = search calls
-
-qualifier-and-qualifier-requires : (t : ℕ) → qualifier-lts.Need-and-qualifier-requires (qualifier-calls t) (qualifier-at t) qualifier.Post
-qualifier-and-qualifier-requires t c κs = (search both-falls, search both-second)
-
-qualifier-or-qualifier-requires : (t : ℕ) → qualifier-lts.Need-or-qualifier-requires (qualifier-calls t) (qualifier-at t) qualifier.Post
-qualifier-or-qualifier-requires t c κs = (search either-falls, search either-second)
-
-qualifier-same-length-3 : (t : ℕ) → qualifier-lts.Need-same-length-3 (qualifier-calls t) (qualifier-at t) qualifier.Post
-qualifier-same-length-3 t c = search calls
-
-qualifier-returns-3 : (t : ℕ) → qualifier-lts.Need-returns-3 (qualifier-calls t) (qualifier-at t) qualifier.Post
-qualifier-returns-3 t c = search calls
-
-qualifier-same-length-4 : (t : ℕ) → qualifier-lts.Need-same-length-4 (qualifier-calls t) (qualifier-at t) qualifier.Post
-qualifier-same-length-4 t c = search calls
-
-qualifier-returns-4 : (t : ℕ) → qualifier-lts.Need-returns-4 (qualifier-calls t) (qualifier-at t) qualifier.Post
-qualifier-returns-4 t c = search calls
-
-qualifier-same-length-5 : (t : ℕ) → qualifier-lts.Need-same-length-5 (qualifier-calls t) (qualifier-at t) qualifier.Post
-qualifier-same-length-5 t c = search calls
-
-qualifier-returns-5 : (t : ℕ) → qualifier-lts.Need-returns-5 (qualifier-calls t) (qualifier-at t) qualifier.Post
-qualifier-returns-5 t c = search calls
-
-qualifier-same-length-6 : (t : ℕ) → qualifier-lts.Need-same-length-6 (qualifier-calls t) (qualifier-at t) qualifier.Post
-qualifier-same-length-6 t c = search calls
-
-qualifier-returns-6 : (t : ℕ) → qualifier-lts.Need-returns-6 (qualifier-calls t) (qualifier-at t) qualifier.Post
-qualifier-returns-6 t c = search calls
-
-then-path-path-requires : (t : ℕ) → then-path-lts.Need-path-requires (then-path-calls t) (then-path-at t) then-path.Post
-then-path-path-requires t c κs = search calls
-
-then-path-join-requires : (t : ℕ) → then-path-lts.Need-join-requires (then-path-calls t) (then-path-at t) then-path.Post
-then-path-join-requires t c κs = search calls
-
-then-path-same-length : (t : ℕ) → then-path-lts.Need-same-length (then-path-calls t) (then-path-at t) then-path.Post
-then-path-same-length t c = search calls
-
-then-path-returns : (t : ℕ) → then-path-lts.Need-returns (then-path-calls t) (then-path-at t) then-path.Post
-then-path-returns t c = search calls
-
-then-qualifier-qualifier-requires : (t : ℕ) → then-qualifier-lts.Need-qualifier-requires (then-qualifier-calls t) (then-qualifier-at t) then-qualifier.Post
-then-qualifier-qualifier-requires t c κs = search calls
-
-then-qualifier-join-requires : (t : ℕ) → then-qualifier-lts.Need-join-requires (then-qualifier-calls t) (then-qualifier-at t) then-qualifier.Post
-then-qualifier-join-requires t c κs = search calls
-
-then-qualifier-same-length : (t : ℕ) → then-qualifier-lts.Need-same-length (then-qualifier-calls t) (then-qualifier-at t) then-qualifier.Post
-then-qualifier-same-length t c = search calls
-
-then-qualifier-returns : (t : ℕ) → then-qualifier-lts.Need-returns (then-qualifier-calls t) (then-qualifier-at t) then-qualifier.Post
-then-qualifier-returns t c = search calls
-
 pub +and-qualifier+below-path+or-path+or-qualifier+path+qualifier+then-path+then-qualifier-spec :
     {M : Type 1} → statement M
 +and-qualifier+below-path+or-path+or-qualifier+path+qualifier+then-path+then-qualifier-spec =
@@ -502,104 +262,104 @@ pub +and-qualifier+below-path+or-path+or-qualifier+path+qualifier+then-path+then
     (λ t. and-qualifier-lts.spec (and-qualifier-calls t)
     (and-qualifier-at t)
     and-qualifier.Post
-    (and-qualifier-qualifier-requires t)
-    (and-qualifier-both-requires t)
-    (and-qualifier-same-length t)
-    (and-qualifier-returns t))
+    (λ c κs. search calls)
+    (λ c κs. search calls)
+    (λ c. search calls)
+    (λ c. search calls))
     (λ t. below-path-lts.spec (below-path-calls t)
     (below-path-at t)
     below-path.Post
-    (below-path-below-requires t)
-    (below-path-then-path-requires t)
-    (below-path-same-length t)
-    (below-path-returns t))
+    (λ c κs. search calls)
+    (λ c κs. search calls)
+    (λ c. search calls)
+    (λ c. search calls))
     (λ t. or-path-lts.spec (or-path-calls t)
     (or-path-at t)
     or-path.Post
-    (or-path-among-requires t)
-    (or-path-path-requires t)
-    (or-path-among-requires-2 t)
-    (or-path-union-requires t)
-    (or-path-same-length t)
-    (or-path-returns t))
+    (λ c κs. search calls)
+    (λ c κs. search calls)
+    (λ c κs. search calls)
+    (λ c κs. search calls)
+    (λ c. search calls)
+    (λ c. search calls))
     (λ t. or-qualifier-lts.spec (or-qualifier-calls t)
     (or-qualifier-at t)
     or-qualifier.Post
-    (or-qualifier-qualifier-requires t)
-    (or-qualifier-union-requires t)
-    (or-qualifier-same-length t)
-    (or-qualifier-returns t))
+    (λ c κs. search calls)
+    (λ c κs. search calls)
+    (λ c. search calls)
+    (λ c. search calls))
     (λ t. path-lts.spec (path-calls t)
     (path-at t)
     path.Post
-    (path-cast-at t)
-    (path-shared-slice-read-code t)
-    (path-behind-requires t)
-    (path-add-requires t)
-    (path-same-length t)
-    (path-returns t)
-    (path-to-child-requires t)
-    (path-table-requires t)
-    (path-same-length-2 t)
-    (path-returns-2 t)
-    (path-to-children-requires t)
-    (path-table-requires-2 t)
-    (path-same-length-3 t)
-    (path-returns-3 t)
-    (path-path-requires t)
-    (path-then-path-requires t)
-    (path-below-path-requires t)
-    (path-or-path-requires t)
-    (path-then-qualifier-requires t)
-    (path-same-length-4 t)
-    (path-returns-4 t)
-    (path-same-length-5 t)
-    (path-returns-5 t)
-    (path-same-length-6 t)
-    (path-returns-6 t)
-    (path-same-length-7 t)
-    (path-returns-7 t)
-    (path-same-length-8 t)
-    (path-returns-8 t))
+    (λ c. search calls)
+    (λ c. search calls)
+    (λ c κs. search calls)
+    (λ c κs. search calls)
+    (λ c. search calls)
+    (λ c. search calls)
+    (λ c κs. search calls)
+    (λ c κs. search calls)
+    (λ c. search calls)
+    (λ c. search calls)
+    (λ c κs. search calls)
+    (λ c κs. search calls)
+    (λ c. search calls)
+    (λ c. search calls)
+    (λ c κs. search calls)
+    (λ c κs. (search slash-falls, search slash-second))
+    (λ c κs. (search slashes-falls, search slashes-deeper))
+    (λ c κs. (search union-falls, search union-second))
+    (λ c κs. (search filter-falls, search filter-second))
+    (λ c. search calls)
+    (λ c. search calls)
+    (λ c. search calls)
+    (λ c. search calls)
+    (λ c. search calls)
+    (λ c. search calls)
+    (λ c. search calls)
+    (λ c. search calls)
+    (λ c. search calls)
+    (λ c. search calls))
     (λ t. qualifier-lts.spec (qualifier-calls t)
     (qualifier-at t)
     qualifier.Post
-    (qualifier-cast-at t)
-    (qualifier-shared-slice-read-code t)
-    (qualifier-behind-requires t)
-    (qualifier-path-requires t)
-    (qualifier-among-requires t)
-    (qualifier-has-requires t)
-    (qualifier-same-length t)
-    (qualifier-returns t)
-    (qualifier-behind-requires-2 t)
-    (qualifier-text-requires t)
-    (qualifier-add-requires t)
-    (qualifier-same-length-2 t)
-    (qualifier-returns-2 t)
-    (qualifier-qualifier-requires t)
-    (qualifier-not-requires t)
-    (qualifier-and-qualifier-requires t)
-    (qualifier-or-qualifier-requires t)
-    (qualifier-same-length-3 t)
-    (qualifier-returns-3 t)
-    (qualifier-same-length-4 t)
-    (qualifier-returns-4 t)
-    (qualifier-same-length-5 t)
-    (qualifier-returns-5 t)
-    (qualifier-same-length-6 t)
-    (qualifier-returns-6 t))
+    (λ c. search calls)
+    (λ c. search calls)
+    (λ c κs. search calls)
+    (λ c κs. search calls)
+    (λ c κs. search calls)
+    (λ c κs. search calls)
+    (λ c. search calls)
+    (λ c. search calls)
+    (λ c κs. search calls)
+    (λ c κs. search calls)
+    (λ c κs. search calls)
+    (λ c. search calls)
+    (λ c. search calls)
+    (λ c κs. search calls)
+    (λ c κs. search calls)
+    (λ c κs. (search both-falls, search both-second))
+    (λ c κs. (search either-falls, search either-second))
+    (λ c. search calls)
+    (λ c. search calls)
+    (λ c. search calls)
+    (λ c. search calls)
+    (λ c. search calls)
+    (λ c. search calls)
+    (λ c. search calls)
+    (λ c. search calls))
     (λ t. then-path-lts.spec (then-path-calls t)
     (then-path-at t)
     then-path.Post
-    (then-path-path-requires t)
-    (then-path-join-requires t)
-    (then-path-same-length t)
-    (then-path-returns t))
+    (λ c κs. search calls)
+    (λ c κs. search calls)
+    (λ c. search calls)
+    (λ c. search calls))
     λ t. then-qualifier-lts.spec (then-qualifier-calls t)
     (then-qualifier-at t)
     then-qualifier.Post
-    (then-qualifier-qualifier-requires t)
-    (then-qualifier-join-requires t)
-    (then-qualifier-same-length t)
-    (then-qualifier-returns t)
+    (λ c κs. search calls)
+    (λ c κs. search calls)
+    (λ c. search calls)
+    (λ c. search calls)

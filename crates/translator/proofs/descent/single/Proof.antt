@@ -3,11 +3,5 @@ use Rattle.translator.proofs.Calls.{calls}
 use Rattle.translator.proofs.descent.single.Statement.{statement}
 use Rattle.translator.proofs.descent.single.Tie as tie
 
-shl-result : tie.Need-shl-result
-shl-result c = search calls
-
-returns : tie.Need-returns
-returns c = search calls
-
 pub single-spec : {M : Type 1} → statement M
-single-spec = tie.close (tie.spec shl-result returns)
+single-spec = tie.close (tie.spec (λ c. search calls) (λ c. search calls))
