@@ -22,5 +22,5 @@ bytes-byte x l = bytes-more x [] l bytes-none
 pub bytes-word : (x : ℕ) → x < words → Bytes (wordOf x)
 bytes-word x l = bytes-more (x / 256) (byteOf (x % 256)) (omega arith) (bytes-byte (x % 256) (omega arith))
 
-pub bytes-header : (a b c : ℕ) → a < 256 → b < 256 → c < 256 → Bytes (headerOf a b c)
-bytes-header a b c l m n = bytes-more a (b ∷ c ∷ wordOf 1) l (bytes-more b (c ∷ wordOf 1) m (bytes-more c (wordOf 1) n (bytes-word 1 (omega arith))))
+pub bytes-header : (a b c v : ℕ) → a < 256 → b < 256 → c < 256 → v < words → Bytes (headerOf a b c v)
+bytes-header a b c v l m n h = bytes-more a (b ∷ c ∷ wordOf v) l (bytes-more b (c ∷ wordOf v) m (bytes-more c (wordOf v) n (bytes-word v h)))

@@ -13,8 +13,8 @@ use borrow.Author.Tests.{lt-ltb, le-leb, eq-eqb, ltb-true, leb-true, eqb-true}
 use Rattle.meaning.specs.declared.Reason.{Reason}
 use Rattle.meaning.specs.declared.Reason.the-variants.{Ended, Mark, Version, Extra}
 use Rattle.meaning.specs.declared.Refusal.{Refusal}
-use Rattle.meaning.proofs.Tests.{and-left, and-right}
-use Rattle.fields.specs.Read.{Read, Reader, got, refused, bind, pick, give, refuse, judge, _>>=_, _>>_, byte, word, mark, header, end}
+use Rattle.meaning.proofs.Tests.{and-in, and-left, and-right}
+use Rattle.fields.specs.Read.{Read, Reader, got, refused, bind, pick, give, refuse, judge, judged, _>>=_, _>>_, byte, word, mark, header, end}
 use Rattle.fields.specs.Write.{Bytes, byteOf, wordOf, headerOf}
 
 -- wherever m meets the bytes e, it gives x and goes on behind them
@@ -38,6 +38,9 @@ abbrev pub Takes : {A : Type 0} → Reader A → (A → List ℕ) → (A → Typ
 Takes m e ok = Accepts m (λ x b. (b ≡ e x) × ok x)
 
 -- What a reading that was accepted has passed.
+pub got-same : {A : Type 0} {a b : A} {n m : ℕ} → got a n ≡ got b m → (a ≡ b) × (n ≡ m)
+got-same h = (cc, cc)
+
 pub refused-out : {A P : Type 0} {r : Refusal} {x : A} {n : ℕ} → refused r ≡ got x n → P
 refused-out h = let z : _≡_ {A = ℕ} 0 1 = cc in absurd (omega arith)
 
@@ -50,13 +53,13 @@ pub pick-out : {A : Type 0} (b : Bool) (y : Read A) (r : Refusal) {x : A} {n : �
 pick-out true y r h = (refl, h)
 pick-out false y r h = refused-out h
 
-pub judge-out : (b : Bool) (r : Reason) (s : List ℕ) (at : ℕ) {u : Unit {0}} {n : ℕ} → judge b r s at ≡ got u n → (b ≡ true) × (at ≡ n)
-judge-out true r s at h = (refl, cc)
-judge-out false r s at h = refused-out h
+pub judge-out : (place : ℕ) (b : Bool) (r : Reason) (s : List ℕ) (at : ℕ) {u : Unit {0}} {n : ℕ} → judge place b r s at ≡ got u n → (b ≡ true) × (at ≡ n)
+judge-out place true r s at h = (refl, cc)
+judge-out place false r s at h = refused-out h
 
 pub end-out : (s : List ℕ) (at : ℕ) {u : Unit {0}} {n : ℕ} → end s at ≡ got u n → (length s ≤ at) × (at ≡ n)
 unfolding end
-end-out s at h = let (t, e) = judge-out (leb (length s) at) Extra s at h in (leb-true _ _ t, e)
+end-out s at h = let (t, e) = judge-out at (leb (length s) at) Extra s at h in (leb-true _ _ t, e)
 
 pub end-in : (s : List ℕ) → end s (length s) ≡ got tt (length s)
 unfolding end
@@ -138,8 +141,8 @@ module _ {A : Type 0} {m : Reader A} {Q : A → List ℕ → Type 0} where
 pub reads-give : {A : Type 0} (x : A) → Reads (give x) [] x
 reads-give x = record { reads = λ s at after h. simp add-zero }
 
-pub reads-judge : {b : Bool} (r : Reason) → b ≡ true → Reads (judge b r) [] tt
-reads-judge r h = rw h (reads-give tt)
+pub reads-judge : (place : ℕ) {b : Bool} (r : Reason) → b ≡ true → Reads (judge place b r) [] tt
+reads-judge place r h = rw h (reads-give tt)
 
 module _ {A : Type 0} {Q : A → List ℕ → Type 0} where
   pub accepts-give : {x : A} → Q x [] → Accepts (give x) Q
@@ -158,8 +161,29 @@ module _ {A : Type 0} {Q : A → List ℕ → Type 0} where
   accepts-pick true p q = p refl
   accepts-pick false p q = q refl
 
-pub takes-judge : (b : Bool) (r : Reason) → Takes (judge b r) (λ _. []) (λ _. b ≡ true)
-takes-judge b r = accepts-pick b (λ h. accepts-give (refl, h)) (λ _. accepts-refuse r)
+pub takes-judge : (place : ℕ) (b : Bool) (r : Reason) → Takes (judge place b r) (λ _. []) (λ _. b ≡ true)
+takes-judge place true r = accepts-give (refl, refl)
+takes-judge place false r = record { accepts = λ bs le h. refused-out h }
+
+-- What is judged when it has been read.
+module _ {A : Type 0} {m : Reader A} (test : A → Bool) (r : Reason) where
+  pub reads-judged : {e : List ℕ} {x : A} → Reads m e x → test x ≡ true → Reads (judged m test r) e x
+  unfolding judged
+  reads-judged p t = record { reads = λ s at after h. simp (p .reads s at after h, t) }
+
+  pub takes-judged : {e : A → List ℕ} {ok : A → Type 0} → Takes m e ok → Takes (judged m test r) e (λ x. ok x × (test x ≡ true))
+  unfolding judged
+  takes-judged {e} {ok} p =
+      record {
+        accepts = λ {s} {at} bs le h.
+            let (a, k, i, j) = bind-out (m s at) (λ a next. bind (judge at (test a) r s next) λ _ next′. got a next′) h in
+            let (u, l, v, w) = bind-out (judge at (test a) r s k) (λ _ next′. got a next′) j in
+            let (t, same) = judge-out at (test a) r s k v in
+            let ha = got-same w in
+            let q = p .accepts bs le i in
+            let good : A → Type 0 = λ y. ok y × (test y ≡ true) in
+            span (q .bytes) le (sym (q .next) ∙ same ∙ ha .1) (q .stand ∙ ap (λ n. q .bytes ++ drop n s) (same ∙ ha .1)) (subst (λ y. (q .bytes ≡ e y) × good y) (ha .0) (q .holds .0, (q .holds .1, t)));
+      }
 
 -- The fields.
 pub reads-byte : (n : ℕ) → Reads byte (byteOf n) n
@@ -224,13 +248,20 @@ takes-mark a b c =
           span (a ∷ b ∷ c ∷ []) le hn (rw (← hn, first s at (omega arith), later s at 1 (omega arith), later s at 2 (omega arith), ha, hb, hc)) (refl, tt);
     }
 
-pub reads-header : (a b c : ℕ) → Reads (header a b c) (headerOf a b c) tt
-unfolding header
-reads-header a b c = reads-bind _ (reads-mark a b c) (reads-bind _ (reads-word 1) (reads-judge Version refl))
+module _ (a b c latest : ℕ) where
+  pub reads-header : (v : ℕ) → 1 ≤ v → v ≤ latest → Reads (header a b c latest) (headerOf a b c v) v
+  unfolding header
+  reads-header v l h = reads-bind _ (reads-mark a b c) (reads-judged _ Version (reads-word v) (and-in (le-leb 1 v l) (le-leb v latest h)))
 
-pub takes-header : (a b c : ℕ) → Takes (header a b c) (λ _. headerOf a b c) (λ _. Unit {0})
-unfolding header
-takes-header a b c = takes-bind (takes-mark a b c) λ _ _. takes-bind takes-word λ v _. takes-weaken (takes-judge (eqb v 1) Version) λ _ t. (rw (eqb-true v 1 t), tt)
+  pub takes-header : Takes (header a b c latest) (headerOf a b c) (λ v. (1 ≤ v) × (v ≤ latest))
+  unfolding header
+  takes-header =
+      takes-bind (takes-mark a b c) λ _ _. takes-weaken (takes-judged _ Version takes-word)
+      λ v h. (refl, (leb-true 1 v (and-left (leb 1 v) _ (h .1)), leb-true v latest (and-right (leb 1 v) _ (h .1))))
+
+-- a file that has one version
+pub takes-first : (a b c : ℕ) → Takes (header a b c 1) (λ _. headerOf a b c 1) (λ v. v ≡ 1)
+takes-first a b c = takes-weaken (takes-header a b c 1) λ v h. let e : v ≡ 1 = omega arith in (rw e, e)
 
 -- A file is r and the end; what f still judges after it reads nothing.
 module _ {A B : Type 0} {r : Reader A} where

@@ -1,21 +1,23 @@
 -- What a field reader's answer says of the reading, and one law for each return of a field reader.
-use Prim.Native.Nat.{ℕ, _+_, _*_, _-_, _≤_, _<_}
-use mathlib.Core.List.{List, []}
+use Prim.Native.Nat.{ℕ, _+_, _*_, _-_, _/_, _^_, _≤_, _<_}
+use mathlib.Core.Bool.{Bool, true, false, _&&_}
+use mathlib.Core.List.{List}
 use mathlib.Core.Path.{_≡_, refl, sym, ap, _∙_}
-use lib.ListN.{length, getD, replicate}
+use native.Mathlib.Nat.{div-eq-of-lt, div-lt-iff-lt-mul, one-le-pow, pow-le-pow-right, lt-of-lt-of-le}
+use native.Mathlib.Omega.{arith}
+use mir.Syntax.{w16}
+use mir.Val.{Fits}
+use lib.Dec.{eqb, ltb, leb}
+use lib.ListN.{length, getD}
 use borrow.Author.Needs.{needs}
-use borrow.Author.Tests.{lt-ltb, le-ltb, le-leb, lt-leb, eq-eqb, ne-eqb}
+use borrow.Author.Tests.{lt-ltb, le-ltb, ltb-true, le-leb, lt-leb, eq-eqb, eqb-true, ne-eqb}
+use Rattle.meaning.proofs.Tests.{same}
+use Rattle.meaning.specs.declared.Reason.{Reason}
 use Rattle.meaning.specs.declared.Reason.the-variants.{Ended, Mark, Version, Extra}
 use Rattle.meaning.specs.declared.Refusal.{Refusal}
-use Rattle.meaning.specs.declared.Outcome.{Outcome}
 use Rattle.meaning.specs.declared.Outcome.the-variants as outcome
-use Rattle.meaning.specs.declared.Document.{Document}
-use Rattle.meaning.specs.declared.DocumentRead.{DocumentRead}
-use Rattle.meaning.specs.Limits.{elementLimit}
-use Rattle.meaning.specs.Documents.{documentNode}
-use Rattle.meaning.specs.Records.{documentOf}
-use Rattle.fields.specs.Outcomes.{outcomeOf, awayOf}
-use Rattle.fields.specs.Read.{Read, got, refused, readOf, passed, beside, byte, word, mark, header, end}
+use Rattle.fields.specs.Outcomes.{outcomeOf}
+use Rattle.fields.specs.Read.{Read, Reader, got, refused, bind, answered, refusalOf, judge, judged, readOf, passed, beside, byte, word, mark, header, end}
 use Rattle.fields.specs.declared.Cursor.{Cursor}
 use Rattle.fields.specs.declared.Field.{Field}
 use Rattle.fields.specs.declared.Field.the-variants.{Got, Refused}
@@ -97,35 +99,60 @@ module _ (s : List ℕ) (at : ℕ) where
             unfolding mark
             mark-got k = simp (← e, le-leb _ _ h, eq-eqb _ _ i, eq-eqb _ _ j, eq-eqb _ _ k)
 
-module _ (a b c : ℕ) (s : List ℕ) (at : ℕ) {x : Field} (p : readOf x ≡ passed (mark a b c s at)) where
-  pub header-unmarked : {r : Refusal} → x ≡ Refused r → readOf x ≡ passed (header a b c s at)
+-- Nothing is left of a mask after a shift by k exactly where it has no bit of k or more.
+module _ (m k : ℕ) where
+  pub shifted-out : eqb (m / 2 ^ k) 0 ≡ ltb m (2 ^ k)
+  shifted-out =
+      same (eqb (m / 2 ^ k) 0) (ltb m (2 ^ k))
+      (λ h. lt-ltb m (2 ^ k) (below (eqb-true _ _ h)))
+      (λ h. eq-eqb _ _ (div-eq-of-lt (ltb-true m (2 ^ k) h)))
+    where
+      below : m / 2 ^ k ≡ 0 → m < 2 ^ k
+      below e = let h : m < 1 * 2 ^ k = div-lt-iff-lt-mul (one-le-pow k 2 (omega arith)) .0 (omega arith) in omega arith
+
+  pub all-within : 16 ≤ k → Fits w16 m → true ≡ ltb m (2 ^ k)
+  all-within l f = let p : 0 < 2 = omega arith in sym (lt-ltb m (2 ^ k) (lt-of-lt-of-le (f .fits) (pow-le-pow-right p l)))
+
+-- What was read passes the test, or fails it.
+module _ {b : Bool} (x : Field) (r : Refusal) {y : Field} where
+  pub passes : b ≡ true → y ≡ x → y ≡ answered b x r
+  unfolding answered
+  passes t e = rw t e
+
+  pub fails : b ≡ false → y ≡ Refused r → y ≡ answered b x r
+  unfolding answered
+  fails t e = rw t e
+
+module _ (m : Reader ℕ) (test : ℕ → Bool) (r : Reason) (s : List ℕ) (at : ℕ) {x : Field} (p : readOf x ≡ m s at) where
+  pub judged-ended : {e : Refusal} → x ≡ Refused e → readOf x ≡ judged m test r s at
+  unfolding judged
+  judged-ended q = p ∙ simp (handed p q)
+
+  pub judged-told : {n : ℕ} {c : Cursor} {b : Bool} {y : Field} → x ≡ Got n c → y ≡ answered b (Got n c) (refusalOf r at) → b ≡ test n → readOf y ≡ judged m test r s at
+  unfolding judged answered
+  judged-told {n} {c} {b} q e t = ap readOf e ∙ told b t
+    where
+      told : (b : Bool) → b ≡ test n → readOf (answered b (Got n c) (refusalOf r at)) ≡ bind (m s at) λ a next. bind (judge at (test a) r s next) λ _ next′. got a next′
+      told true t = simp (taken p q, ← t)
+      told false t = simp (taken p q, ← t)
+
+-- the mark, and then the version
+module _ (a b c latest : ℕ) (s : List ℕ) (at : ℕ) {x : Field} (p : readOf x ≡ passed (mark a b c s at)) where
+  pub header-unmarked : {r : Refusal} → x ≡ Refused r → readOf x ≡ header a b c latest s at
   unfolding header
   header-unmarked q = p ∙ simp (handed-passed (mark a b c s at) p q)
 
-  module _ {y : Field} {v : ℕ} {d : Cursor} (q : x ≡ Got v d) (h : readOf y ≡ word s (d .at)) where
-    pub header-unversioned : {r : Refusal} → y ≡ Refused r → readOf y ≡ passed (header a b c s at)
+  module _ {v : ℕ} {d : Cursor} {y : Field} (q : x ≡ Got v d) (h : readOf y ≡ word s (d .at)) where
+    pub header-unversioned : {r : Refusal} → y ≡ Refused r → readOf y ≡ header a b c latest s at
     unfolding header
-    header-unversioned k = h ∙ simp (taken-passed (mark a b c s at) p q, handed h k)
+    header-unversioned k = judged-ended word (λ v. leb 1 v && leb v latest) Version s (d .at) h k ∙ simp (taken-passed (mark a b c s at) p q)
 
-    module _ {w : ℕ} {f : Cursor} (k : y ≡ Got w f) where
-      pub header-other : {z : Field} → (w ≡ 1 → ⊥) → z ≡ Refused (record { reason = Version }) → readOf z ≡ passed (header a b c s at)
-      unfolding header
-      header-other n i = ap readOf i ∙ simp (taken-passed (mark a b c s at) p q, taken h k, ne-eqb _ _ n)
-
-      pub header-got : w ≡ 1 → got 0 (f .at) ≡ passed (header a b c s at)
-      unfolding header
-      header-got e = simp (taken-passed (mark a b c s at) p q, taken h k, eq-eqb _ _ e)
+    pub header-told : {n : ℕ} {f : Cursor} {t : Bool} {z : Field} → y ≡ Got n f → z ≡ answered t (Got n f) (refusalOf Version (d .at)) → t ≡ leb 1 n && leb n latest → readOf z ≡ header a b c latest s at
+    unfolding header
+    header-told k e t = judged-told word (λ v. leb 1 v && leb v latest) Version s (d .at) h k e t ∙ simp (taken-passed (mark a b c s at) p q)
 
 pub outcome-refused : {x : Field} {r : Refusal} → x ≡ Refused r → outcome.Refused r ≡ outcomeOf (readOf x)
 outcome-refused q = rw q
-
-pub blank-document : _≡_ {A = Document} (record { count = 0; elements = replicate elementLimit documentNode }) (documentOf [])
-unfolding documentOf
-blank-document = refl
-
-pub empty-away : {d : Document} {u : Outcome} (x : Field) → u ≡ outcomeOf (readOf x) → d ≡ documentOf []
-    → _≡_ {A = DocumentRead} (record { outcome = u; document = d }) (awayOf x)
-empty-away x p q = rw (p, q)
 
 pub ruleset laws = (
   byte-ended,
@@ -141,10 +168,13 @@ pub ruleset laws = (
   mark-got,
   header-unmarked,
   header-unversioned,
-  header-other,
-  header-got,
+  header-told,
+  shifted-out,
+  all-within,
+  passes,
+  fails,
+  judged-ended,
+  judged-told,
   outcome-refused,
-  blank-document,
-  empty-away,
   needs,
 )

@@ -1,4 +1,3 @@
 pub mod Read
 pub mod Write
 pub mod Outcomes
-pub mod Kept

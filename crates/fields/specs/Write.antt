@@ -15,6 +15,6 @@ byteOf n = n ∷ []
 abbrev pub wordOf : ℕ → List ℕ
 wordOf n = n / 256 ∷ n % 256 ∷ []
 
--- a file begins with its mark and version 1
-abbrev pub headerOf : ℕ → ℕ → ℕ → List ℕ
-headerOf a b c = a ∷ b ∷ c ∷ 0 ∷ 1 ∷ []
+-- a file begins with its mark and its version
+abbrev pub headerOf : ℕ → ℕ → ℕ → ℕ → List ℕ
+headerOf a b c version = a ∷ b ∷ c ∷ wordOf version

@@ -1,21 +1,14 @@
 // The field readers that all five files share: each answers a value with the next cursor, or the refusal.
 ghost use mathlib.Core.Path.{_≡_};
-ghost use Prim.Native.Nat.{_+_, _*_, _-_};
+ghost use Prim.Native.Nat.{_-_, _^_};
+ghost use lib.Dec.{ltb};
 ghost use lib.ListN.{length};
-ghost use mathlib.Core.List.{[]};
-ghost use Rattle.meaning.specs.Documents.{node};
-ghost use Rattle.meaning.specs.Records.{documentOf};
-ghost use Rattle.fields.specs.Outcomes.{outcomeOf, awayOf};
-ghost use Rattle.fields.specs.Read.{readOf, passed, byte, word, mark, header, end};
-
-pub mod kept;
-
-use meaning::Document;
-use meaning::DocumentRead;
-use meaning::Element;
+ghost use Rattle.fields.specs.Outcomes.{outcomeOf};
+ghost use Rattle.fields.specs.Read.{readOf, passed, answered, refusalOf, byte, word, byteBelow, byteUpTo, maskBelow, mark, header, end};
 use meaning::Outcome;
 use meaning::Reason;
 use meaning::Refusal;
+use numbers::u8_to_u16;
 
 // Where reading goes on.
 pub struct Cursor {
@@ -28,25 +21,6 @@ pub enum Field {
     Refused(Refusal),
 }
 
-// The answer that turns the input away.
-pub fn refuse(reason: Reason) -> Field
-    ensures { λ r. ⌜ r ≡ Field.Refused (record { reason = reason }) ⌝ }
-{
-    Field::Refused(Refusal { reason })
-}
-
-fn wide(b: u8) -> u16
-    ensures { λ r. ⌜ r ≡ b ⌝ }
-{
-    b as u16
-}
-
-fn joined(high: u8, low: u8) -> u16
-    ensures { λ r. ⌜ r ≡ high * 256 + low ⌝ }
-{
-    wide(high) * 256 + wide(low)
-}
-
 // How reading came out, by what its last field answered.
 pub fn outcome(field: Field) -> Outcome
     ensures { λ r. ⌜ r ≡ outcomeOf (readOf field) ⌝ }
@@ -57,49 +31,14 @@ pub fn outcome(field: Field) -> Outcome
     }
 }
 
-// How many elements a document has places for.
-const LIMIT: usize = 127;
-
-// The document node, which also stands for every element that there isn't.
-pub const DOCUMENT_NODE: Element = Element {
-    parent: 0,
-    kind: 16,
-    text: 0,
-};
-
-// Node v. Past the last element the places are blank, as the document node is.
-pub fn node_at(document: Document, v: u8) -> Element
-    ensures { λ r. ⌜ r ≡ node (document .elements) v ⌝ }
+// Whether a mask has no bit of k or more. It has 16 bits, and a shift by as many or more has no meaning.
+fn within(mask: u16, k: u8) -> bool
+    ensures { λ r. ⌜ r ≡ ltb mask (2 ^ k) ⌝ }
 {
-    let number = v as usize;
-    if number == 0 {
-        return DOCUMENT_NODE;
+    if 16 <= k {
+        return true;
     }
-    if LIMIT < number {
-        return DOCUMENT_NODE;
-    }
-    let i = number - 1;
-    document.elements[i]
-}
-
-// A document with no elements.
-fn blank() -> Document
-    ensures { λ r. ⌜ r ≡ documentOf [] ⌝ }
-{
-    Document {
-        count: 0,
-        elements: [DOCUMENT_NODE; LIMIT],
-    }
-}
-
-// A refused document is the empty one.
-pub fn turned_away(field: Field) -> DocumentRead
-    ensures { λ r. ⌜ r ≡ awayOf field ⌝ }
-{
-    DocumentRead {
-        outcome: outcome(field),
-        document: blank(),
-    }
+    mask >> k == 0
 }
 
 impl Cursor {
@@ -107,6 +46,20 @@ impl Cursor {
         ensures { λ r. ⌜ r .at ≡ 0 ⌝ }
     {
         Cursor { at: 0 }
+    }
+
+    // The field that stands here turns the input away.
+    pub fn refuse(self, reason: Reason) -> Field
+        ensures { λ r. ⌜ r ≡ Field.Refused (refusalOf reason (self .at)) ⌝ }
+    {
+        Field::Refused(Refusal { reason })
+    }
+
+    // The answer for a field that stands here, if it passes.
+    pub fn judged(self, field: Field, passes: bool, reason: Reason) -> Field
+        ensures { λ r. ⌜ r ≡ answered passes field (refusalOf reason (self .at)) ⌝ }
+    {
+        if passes { field } else { self.refuse(reason) }
     }
 
     // How many bytes are left.
@@ -122,9 +75,9 @@ impl Cursor {
     {
         let at = self.at;
         if s.len() <= at {
-            return refuse(Reason::Ended);
+            return self.refuse(Reason::Ended);
         }
-        Field::Got(wide(s[at]), Cursor { at: at + 1 })
+        Field::Got(u8_to_u16(s[at]), Cursor { at: at + 1 })
     }
 
     pub fn word(self, s: &[u8]) -> Field
@@ -132,11 +85,43 @@ impl Cursor {
     {
         let at = self.at;
         if self.left(s) < 2 {
-            return refuse(Reason::Ended);
+            return self.refuse(Reason::Ended);
         }
         let high = s[at];
         let low = s[at + 1];
-        Field::Got(joined(high, low), Cursor { at: at + 2 })
+        Field::Got(numbers::word(high, low), Cursor { at: at + 2 })
+    }
+
+    pub fn byte_below(self, s: &[u8], limit: u8, reason: Reason) -> Field
+        ensures { λ r. ⌜ readOf r ≡ byteBelow limit reason (now (s .entry)) (self .at) ⌝ }
+    {
+        let read = self.byte(s);
+        let Field::Got(n, _) = read else {
+            return read;
+        };
+        self.judged(read, n < limit as u16, reason)
+    }
+
+    // A byte from 1 to a limit.
+    pub fn byte_up_to(self, s: &[u8], limit: u8, reason: Reason) -> Field
+        ensures { λ r. ⌜ readOf r ≡ byteUpTo limit reason (now (s .entry)) (self .at) ⌝ }
+    {
+        let read = self.byte(s);
+        let Field::Got(n, _) = read else {
+            return read;
+        };
+        self.judged(read, (1 <= n) & (n <= limit as u16), reason)
+    }
+
+    // A mask of types below k.
+    pub fn mask_below(self, s: &[u8], k: u8) -> Field
+        ensures { λ r. ⌜ readOf r ≡ maskBelow k (now (s .entry)) (self .at) ⌝ }
+    {
+        let read = self.word(s);
+        let Field::Got(mask, _) = read else {
+            return read;
+        };
+        self.judged(read, within(mask, k), Reason::Kind)
     }
 
     // The three letters are one field.
@@ -145,36 +130,33 @@ impl Cursor {
     {
         let at = self.at;
         if self.left(s) < 3 {
-            return refuse(Reason::Ended);
+            return self.refuse(Reason::Ended);
         }
         if s[at] != a {
-            return refuse(Reason::Mark);
+            return self.refuse(Reason::Mark);
         }
         if s[at + 1] != b {
-            return refuse(Reason::Mark);
+            return self.refuse(Reason::Mark);
         }
         if s[at + 2] != c {
-            return refuse(Reason::Mark);
+            return self.refuse(Reason::Mark);
         }
         Field::Got(0, Cursor { at: at + 3 })
     }
 
-    // A file's mark, and version 1.
-    pub fn header(self, s: &[u8], a: u8, b: u8, c: u8) -> Field
-        ensures { λ r. ⌜ readOf r ≡ passed (header a b c (now (s .entry)) (self .at)) ⌝ }
+    // A file's mark, and its version, which is the answer: the reader says up to which it reads.
+    pub fn header(self, s: &[u8], a: u8, b: u8, c: u8, latest: u16) -> Field
+        ensures { λ r. ⌜ readOf r ≡ header a b c latest (now (s .entry)) (self .at) ⌝ }
     {
         let marked = self.mark(s, a, b, c);
         let Field::Got(_, after) = marked else {
             return marked;
         };
-        let versioned = after.word(s);
-        let Field::Got(version, next) = versioned else {
-            return versioned;
+        let read = after.word(s);
+        let Field::Got(version, _) = read else {
+            return read;
         };
-        if version != 1 {
-            return refuse(Reason::Version);
-        }
-        Field::Got(0, next)
+        after.judged(read, (1 <= version) & (version <= latest), Reason::Version)
     }
 
     // The end of the file: nothing may follow.
@@ -182,7 +164,7 @@ impl Cursor {
         ensures { λ r. ⌜ readOf r ≡ passed (end (now (s .entry)) (self .at)) ⌝ }
     {
         if self.at < s.len() {
-            return refuse(Reason::Extra);
+            return self.refuse(Reason::Extra);
         }
         Field::Got(0, self)
     }

@@ -22,6 +22,21 @@ pub struct Document {
     pub elements: [Element; 127],
 }
 
+// What depends on how many elements a document may have: that number, the bytes of a row of bits, one for each node, and the
+// bytes of a node's number.
+pub struct Sizes {
+    pub elements: usize,
+    pub row: usize,
+    pub number: usize,
+}
+
+// Documents of up to 127 elements.
+pub const SMALL: Sizes = Sizes {
+    elements: 127,
+    row: 16,
+    number: 1,
+};
+
 // The nine operations, each with what it needs: a mask of types, a text number, or the steps that it reads.
 pub enum Operation {
     Table(u16),

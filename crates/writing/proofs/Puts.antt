@@ -64,9 +64,9 @@ pub put-word : (v : ℕ) {at mid-at after high low : ℕ} {old mid new : List �
 put-word v {at} {mid-at} {after} {high} {low} {old} {mid} {new} h e f p q =
     rw (sym e, sym f) (put-then (omega (arith, h)) p q)
 
-pub put-header : {a b c i j k after : ℕ} {old x y z new : List ℕ} → 5 ≤ length old → Put 0 (byteOf a) old x i → Put i (byteOf b) x y j → Put j (byteOf c) y z k → Put k (wordOf 1) z new after
-    → Put 0 (headerOf a b c) old new after
-put-header {old = old} h p q r s =
+pub put-header : (v : ℕ) {a b c i j k after : ℕ} {old x y z new : List ℕ} → 5 ≤ length old → Put 0 (byteOf a) old x i → Put i (byteOf b) x y j → Put j (byteOf c) y z k → Put k (wordOf v) z new after
+    → Put 0 (headerOf a b c v) old new after
+put-header v {old = old} h p q r s =
     put-then (omega arith) (put-then (omega arith) (put-then (omega arith) p q) r) s
 
 pub numbered : {n : ℕ} (r : Refusal) → n ≡ numberOf (r .reason) → record { number = n; count = 0 } ≡ turnedAway r

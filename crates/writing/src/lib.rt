@@ -1,12 +1,15 @@
 // The field writers that every written file shares, and what a call answers.
 ghost use mathlib.Core.Path.{_≡_};
-ghost use Prim.Native.Nat.{_+_, _<_, _≤_, _/_, _%_};
+ghost use Prim.Native.Nat.{_+_, _<_, _≤_};
 ghost use lib.ListN.{length};
 ghost use Rattle.fields.specs.Write.{byteOf, wordOf, headerOf};
 ghost use Rattle.writing.specs.Lent.{accepted, turnedAway};
 ghost use Rattle.writing.specs.Put.{Put};
 use meaning::Answer;
+use meaning::Reason;
 use meaning::Refusal;
+use numbers::high;
+use numbers::low;
 
 pub fn accepted(count: u32) -> Answer
     ensures { λ r. ⌜ r ≡ accepted count ⌝ }
@@ -24,16 +27,11 @@ pub fn turned_away(refusal: Refusal) -> Answer
     }
 }
 
-fn high(n: u16) -> u8
-    ensures { λ r. ⌜ r ≡ n / 256 ⌝ }
+// Turned away for a reason that is no field's.
+pub fn refused(reason: Reason) -> Answer
+    ensures { λ r. ⌜ r ≡ turnedAway (record { reason = reason }) ⌝ }
 {
-    (n / 256) as u8
-}
-
-fn low(n: u16) -> u8
-    ensures { λ r. ⌜ r ≡ n % 256 ⌝ }
-{
-    (n % 256) as u8
+    turned_away(Refusal { reason })
 }
 
 // Writes a byte, and answers where writing goes on.
@@ -53,13 +51,13 @@ pub fn word(out: &mut [u8], at: usize, value: u16) -> usize
     byte(out, next, low(value))
 }
 
-// A file's mark and version 1, at the start.
-pub fn header(out: &mut [u8], a: u8, b: u8, c: u8) -> usize
+// A file's mark and its version, at the start.
+pub fn header(out: &mut [u8], a: u8, b: u8, c: u8, version: u16) -> usize
     requires { ⌜ 5 ≤ length (now out) ⌝ }
-    ensures { λ r. ⌜ Put 0 (headerOf a b c) (now (out .entry)) (now (out .exit)) r ⌝ }
+    ensures { λ r. ⌜ Put 0 (headerOf a b c version) (now (out .entry)) (now (out .exit)) r ⌝ }
 {
     let second = byte(out, 0, a);
     let third = byte(out, second, b);
-    let version = byte(out, third, c);
-    word(out, version, 1)
+    let last = byte(out, third, c);
+    word(out, last, version)
 }

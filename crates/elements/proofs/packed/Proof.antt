@@ -1,7 +1,7 @@
 -- Parent, type and text number fit their bits.
-use Rattle.fields.proofs.Packed.{packed-laws}
-use Rattle.fields.proofs.kept.packed.Statement.{statement}
-use Rattle.fields.proofs.kept.packed.Tie as tie
+use Rattle.elements.proofs.Kept.{packed-laws}
+use Rattle.elements.proofs.packed.Statement.{statement}
+use Rattle.elements.proofs.packed.Tie as tie
 
 pub packed-spec : {M : Type 1} → statement M
 packed-spec =
