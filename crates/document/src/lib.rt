@@ -55,7 +55,7 @@ impl Standing {
         ensures { λ r. ⌜ r ≡ childKind g (node (openIn (now (kept .entry)) self .elements) (self .inner) .kind) kind ⌝ }
     {
         let inner = node_at(kept, self.count, self.inner);
-        graph::is_child(g, inner.kind, kind)
+        kinds::is_child(g, inner.kind, kind)
     }
 
     // The new element goes behind the last, and is the innermost.

@@ -284,7 +284,7 @@ fn keeps_edge_rule(g: Graph, kept: &[u32], total: usize, i: u8) -> bool
 {
     let element = node_at(kept, total, i);
     let parent = node_at(kept, total, element.parent);
-    graph::is_child(g, parent.kind, element.kind)
+    kinds::is_child(g, parent.kind, element.kind)
 }
 
 // The file has ended: nothing is read any more, and the cursor stays.
