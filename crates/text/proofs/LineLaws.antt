@@ -6,15 +6,11 @@ use native.Mathlib.Numerals.{add-one}
 use native.Mathlib.Omega.{arith}
 use lib.ListN.{length, getD, take, drop, length-append}
 use lib.Seq.{take-suc, take-add, length-take-le}
-use Rattle.meaning.specs.declared.Document.{Document}
 use Rattle.meaning.specs.declared.Element.{Element}
-use Rattle.meaning.specs.Limits.{words, elementLimit}
+use Rattle.meaning.specs.Limits.{words}
 use Rattle.meaning.specs.Documents.{View, view, node}
-use Rattle.meaning.specs.Records.{documentOf, elementsIn}
-use Rattle.fields.specs.Write.{Bytes, byteOf}
-use Rattle.fields.proofs.Nodes.{node-padded}
-use Rattle.text.specs.Listing.{decimal, space, endOfLine, selectedWord, firstLine, line, lines, listing}
-use Rattle.text.specs.Listable.{Padded, nodeLimit, lineLimit}
+use Rattle.fields.specs.Write.{byteOf}
+use Rattle.text.specs.Listing.{decimal, space, endOfLine, selectedWord, firstLine, line, lines, listing, listingRoom}
 use Rattle.text.proofs.Decimals.{few-digits}
 
 -- a number and the byte that ends its field
@@ -43,12 +39,9 @@ line-fields : (d : View) (v : ℕ) → line d v ≡ threeFields v (d .kind v) (d
 unfolding line
 line-fields d v = simp append-assoc
 
-pub line-is : (d : Document) (v : ℕ) {x : Element} → Padded d → x ≡ node (d .elements) v → line (view (elementsIn d)) v ≡ threeFields v (x .kind) (x .text)
-unfolding view documentOf
-line-is d v {x} p e =
-    let es = elementsIn d in
-    let same : x ≡ node es v = e ∙ ap (λ y. node (y .elements) v) p ∙ node-padded es (elementLimit - length es) v in
-    rw (line-fields (view es) v, same)
+pub line-is : (es : List Element) (v : ℕ) {x : Element} → x ≡ node es v → line (view es) v ≡ threeFields v (x .kind) (x .text)
+unfolding view
+line-is es v e = rw (line-fields (view es) v, e)
 
 pub first-length : (n : ℕ) → length (firstLine n) ≡ 10 + length (decimal n)
 unfolding firstLine
@@ -91,26 +84,27 @@ module _ (d : View) (nodes : List ℕ) where
     unfolding listing
     listing-is = rw (length-take-le count nodes there)
 
--- How long a listing is, where a type is below 256 and a text number has 16 bits.
-module _ (d : View) (kinds : (v : ℕ) → d .kind v < 256) (texts : (v : ℕ) → d .text v < words) where
-  line-most : (v : ℕ) → v < 256 → length (line d v) ≤ lineLimit
+-- How long a listing is, where numbers of nodes have three digits, kinds two, and text numbers 16 bits.
+module _ (d : View) (few : d .size < 1000) (kinds : (v : ℕ) → d .kind v < 100) (texts : (v : ℕ) → d .text v < words) where
+  line-most : (v : ℕ) → v < d .size → length (line d v) ≤ 13
   line-most v l =
       omega (
         arith,
         ap length (line-fields d v),
         fields-length v (d .kind v) (d .text v),
-        few-digits 4 v (omega arith),
-        few-digits 4 (d .kind v) (omega (arith, kinds v)),
+        few-digits 2 v (omega arith),
+        few-digits 1 (d .kind v) (omega (arith, kinds v)),
         few-digits 4 (d .text v) (omega (arith, texts v)),
       )
 
-  lines-most : (vs : List ℕ) → Bytes vs → length (lines d vs) ≤ lineLimit * length vs
+  lines-most : (vs : List ℕ) → ((i : ℕ) → i < length vs → getD vs i 0 < d .size) → length (lines d vs) ≤ 13 * length vs
   unfolding lines
-  lines-most [] bytes = omega arith
-  lines-most (v ∷ vs) bytes = omega (arith, length-append (line d v) (lines d vs), line-most v (bytes 0), lines-most vs (λ i. bytes (suc i)))
+  lines-most [] nodes = omega arith
+  lines-most (v ∷ vs) nodes = omega (arith, length-append (line d v) (lines d vs), line-most v (nodes 0 (omega arith)), lines-most vs (λ i l. nodes (suc i) (omega arith)))
 
-  -- its length is a number of 32 bits
-  pub listing-fits : (nodes : List ℕ) → Bytes nodes → length nodes ≤ nodeLimit → length (listing d nodes) < 2 ^ 32
+  -- its room is enough
+  pub listing-most : (n : ℕ) (nodes : List ℕ) → d .size ≡ suc n → ((i : ℕ) → i < length nodes → getD nodes i 0 < d .size) → length nodes ≤ d .size
+      → length (listing d nodes) ≤ listingRoom n
   unfolding listing
-  listing-fits nodes bytes l =
-      omega (arith, length-append (firstLine (length nodes)) (lines d nodes), first-length (length nodes), few-digits 4 (length nodes) (omega arith), lines-most nodes bytes)
+  listing-most n nodes size there l =
+      omega (arith, length-append (firstLine (length nodes)) (lines d nodes), first-length (length nodes), few-digits 2 (length nodes) (omega arith), lines-most nodes there)

@@ -1,28 +1,19 @@
--- One law for each need of the functions that measure and write numbers.
+-- One law for each need of the functions that write numbers.
 use Prim.Native.Nat.{ℕ, _+_, _/_, _%_, _≤_, _<_}
 use mathlib.Core.List.{List, [], _∷_, _++_}
 use mathlib.Core.Path.{_≡_, ap}
 use native.Mathlib.Omega.{arith}
 use lib.ListN.{length, length-append}
 use borrow.Author.Needs.{needs}
-use mir.Syntax.{w16}
-use mir.Val.{Fits}
 use Rattle.fields.specs.Write.{byteOf}
 use Rattle.writing.specs.Put.{Put}
 use Rattle.writing.proofs.Puts.{put-then, put-length}
 use Rattle.text.specs.Listing.{decimal}
-use Rattle.text.specs.Listable.{numberLimit, Long}
-use Rattle.text.proofs.Decimals.{one-digit, last-digit, few-digits}
-
-pub width-one : (n : ℕ) → n < 10 → Long (decimal n) numberLimit 1
-width-one n l = record { counted = omega (arith, ap length (one-digit n l)); most = omega arith }
+use Rattle.text.proofs.Decimals.{one-digit, last-digit}
 
 module _ (n : ℕ) (more : 10 ≤ n) where
   one-longer : length (decimal n) ≡ length (decimal (n / 10)) + 1
   one-longer = omega (arith, ap length (last-digit n more), length-append (decimal (n / 10)) (byteOf (48 + n % 10)))
-
-  pub width-more : {r : ℕ} → Fits w16 n → Long (decimal (n / 10)) numberLimit r → Long (decimal n) numberLimit (r + 1)
-  width-more f w = record { counted = omega (arith, one-longer, w .counted); most = omega (arith, one-longer, w .counted, few-digits 4 n (omega (arith, f .fits))) }
 
 -- behind what was written there is room for another byte
 room-behind : {at next : ℕ} {bs old mid : List ℕ} → at + length bs < length old → Put at bs old mid next → next < length mid
@@ -58,4 +49,4 @@ pub put-four : {a b c d at i j k after : ℕ} {old x y z new : List ℕ} → at 
     → Put at (a ∷ b ∷ c ∷ d ∷ []) old new after
 put-four h p q r s = put-then (omega arith) (put-then (omega arith) (put-then (omega arith) p q) r) s
 
-pub ruleset laws = (width-one, width-more, digit-room, put-digit, tenth-room, last-room, put-last, end-room, put-field, put-four, needs)
+pub ruleset laws = (digit-room, put-digit, tenth-room, last-room, put-last, end-room, put-field, put-four, needs)

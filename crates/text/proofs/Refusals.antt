@@ -1,7 +1,6 @@
 -- One law for each need of the functions that write a refusal.
 use Prim.Native.Nat.{ℕ, _+_, _≤_, _<_}
 use mathlib.Core.List.{List, [], _∷_, _++_}
-use mathlib.Core.Path.{_≡_}
 use native.Mathlib.Omega.{arith}
 use lib.ListN.{length}
 use borrow.Author.Needs.{needs}
@@ -17,12 +16,12 @@ pub put-refused : {i after : ℕ} {old mid new : List ℕ} → 8 ≤ length old 
     → Put 0 (refusedWord ++ space) old new after
 put-refused l p q = put-then (omega arith) p q
 
-module _ (n : ℕ) {m : ℕ} (old : List ℕ) (room : refusalLimit ≤ length old) (e : m ≡ n) {i : ℕ} {mid : List ℕ} (word : Put 0 (refusedWord ++ space) old mid i) where
-  pub refused-room : Fits w8 n → i + length (decimal m) < length mid
-  refused-room f = rw e (omega (arith, few-digits 4 n (omega (arith, f .fits)), word .behind, put-length (omega arith) word))
+module _ (n : ℕ) (old : List ℕ) (room : refusalLimit ≤ length old) {i : ℕ} {mid : List ℕ} (word : Put 0 (refusedWord ++ space) old mid i) where
+  pub refused-room : Fits w8 n → i + length (decimal n) < length mid
+  refused-room f = omega (arith, few-digits 4 n (omega (arith, f .fits)), word .behind, put-length (omega arith) word)
 
-  pub put-refusal : {after : ℕ} {new : List ℕ} → Put i (decimal m ++ endOfLine) mid new after → Put 0 (refusal n) old new after
+  pub put-refusal : {after : ℕ} {new : List ℕ} → Put i (decimal n ++ endOfLine) mid new after → Put 0 (refusal n) old new after
   unfolding refusal
-  put-refusal number = rw (← e) (put-then (omega arith) word number)
+  put-refusal number = put-then (omega arith) word number
 
 pub ruleset laws = (put-refused, refused-room, put-refusal, needs)

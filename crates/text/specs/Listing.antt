@@ -1,6 +1,6 @@
 -- The listing: `selected` and the count, then a line of number, type and text number for each node; or `refused` and the
 -- number. Decimal numbers, one space between fields, byte 10 at the end of a line.
-use Prim.Native.Nat.{ℕ, zero, suc, _+_, _/_, _%_}
+use Prim.Native.Nat.{ℕ, zero, suc, _+_, _*_, _/_, _%_}
 use mathlib.Core.List.{List, [], _∷_, _++_}
 use lib.Dec.{ltb}
 use lib.ListN.{length}
@@ -40,6 +40,10 @@ lines d (v ∷ vs) = line d v ++ lines d vs
 
 unfoldable pub listing : View → List ℕ → List ℕ
 listing d nodes = firstLine (length nodes) ++ lines d nodes
+
+-- the room for a listing of nodes of n elements: a line has at most 13 bytes where numbers of nodes have three digits
+abbrev pub listingRoom : ℕ → ℕ
+listingRoom n = 13 * (n + 2)
 
 -- `refused`
 abbrev pub refusedWord : List ℕ

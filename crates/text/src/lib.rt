@@ -1,30 +1,18 @@
-// The listing's text: how long it is, and its bytes; and the text of a refusal.
+// The listing's text, and that of a refusal.
 ghost use mathlib.Core.Path.{_≡_};
 ghost use mathlib.Core.List.{[], _∷_, _++_};
 ghost use Prim.Native.Nat.{_+_, _%_, _≤_, _<_};
 ghost use lib.ListN.{length, take};
-ghost use Rattle.meaning.specs.Documents.{view};
-ghost use Rattle.meaning.specs.Records.{elementsIn};
 ghost use Rattle.fields.specs.Write.{byteOf};
 ghost use Rattle.writing.specs.Put.{Put};
 ghost use Rattle.text.specs.Listing.{decimal, space, selectedWord, firstLine, line, lines, listing, refusedWord, refusal};
-ghost use Rattle.text.specs.Listable.{Padded, Listable, numberLimit, lineLimit, firstLimit, linesLimit, listingLimit, refusalLimit, Long};
-use meaning::Document;
+ghost use Rattle.text.specs.Listable.{shown, Listable, refusalLimit};
+use numbers::u8_to_u16;
 
 fn digit(n: u16) -> u8
     ensures { λ r. ⌜ r ≡ 48 + n % 10 ⌝ }
 {
     48 + ((n % 10) as u8)
-}
-
-// How many digits a number has.
-fn width(n: u16) -> usize
-    ensures { λ r. ⌜ Long (decimal n) numberLimit r ⌝ }
-{
-    if n < 10 {
-        return 1;
-    }
-    width(n / 10) + 1
 }
 
 fn decimal(out: &mut [u8], at: usize, n: u16) -> usize
@@ -47,33 +35,15 @@ fn field(out: &mut [u8], at: usize, n: u16, end: u8) -> usize
     writing::byte(out, next, end)
 }
 
-fn wide(b: u8) -> u16
-    ensures { λ r. ⌜ r ≡ b ⌝ }
-{
-    b as u16
-}
-
 // A node's line: its number, its type and its text number.
-fn line(document: Document, v: u8, out: &mut [u8], at: usize) -> usize
-    requires { ⌜ Padded document ⌝ }
-    requires { ⌜ at + length (line (view (elementsIn document)) v) ≤ length (now out) ⌝ }
-    ensures { λ r. ⌜ Put at (line (view (elementsIn document)) v) (now (out .entry)) (now (out .exit)) r ⌝ }
+fn line(kept: &[u32], n: usize, v: u8, out: &mut [u8], at: usize) -> usize
+    requires { ⌜ (n ≤ length (now kept)) × (at + length (line (shown (now kept) n) v) ≤ length (now out)) ⌝ }
+    ensures { λ r. ⌜ Put at (line (shown (now (kept .entry)) n) v) (now (out .entry)) (now (out .exit)) r ⌝ }
 {
-    let element = fields::node_at(document, v);
-    let kind = field(out, at, wide(v), b' ');
-    let text = field(out, kind, wide(element.kind), b' ');
+    let element = elements::node_at(kept, n, v);
+    let kind = field(out, at, v as u16, b' ');
+    let text = field(out, kind, u8_to_u16(element.kind), b' ');
     field(out, text, element.text, b'\n')
-}
-
-fn line_length(document: Document, v: u8) -> usize
-    requires { ⌜ Padded document ⌝ }
-    ensures { λ r. ⌜ Long (line (view (elementsIn document)) v) lineLimit r ⌝ }
-{
-    let element = fields::node_at(document, v);
-    let number = width(wide(v));
-    let kind = width(wide(element.kind));
-    let text = width(element.text);
-    number + kind + text + 3
 }
 
 fn four(out: &mut [u8], at: usize, a: u8, b: u8, c: u8, d: u8) -> usize
@@ -104,55 +74,27 @@ fn first_line(out: &mut [u8], count: u16) -> usize
     field(out, number, count, b'\n')
 }
 
-fn first_line_length(count: u16) -> usize
-    ensures { λ r. ⌜ Long (firstLine count) firstLimit r ⌝ }
-{
-    width(count) + 10
-}
-
-fn lines(document: Document, nodes: &[u8], count: usize, out: &mut [u8], at: usize) -> usize
-    requires { ⌜ Listable document (now nodes) count ⌝ }
-    requires { ⌜ at + length (lines (view (elementsIn document)) (take count (now nodes))) ≤ length (now out) ⌝ }
-    ensures { λ r. ⌜ Put at (lines (view (elementsIn document)) (take count (now (nodes .entry)))) (now (out .entry)) (now (out .exit)) r ⌝ }
+fn lines(kept: &[u32], n: usize, nodes: &[u8], count: usize, out: &mut [u8], at: usize) -> usize
+    requires { ⌜ Listable (now kept) n (now nodes) count × (at + length (lines (shown (now kept) n) (take count (now nodes))) ≤ length (now out)) ⌝ }
+    ensures { λ r. ⌜ Put at (lines (shown (now (kept .entry)) n) (take count (now (nodes .entry)))) (now (out .entry)) (now (out .exit)) r ⌝ }
 {
     let mut next = at;
     let mut i: usize = 0;
     while i < count {
-        next = line(document, nodes[i], out, next);
+        next = line(kept, n, nodes[i], out, next);
         i += 1;
     }
     next
 }
 
-fn lines_length(document: Document, nodes: &[u8], count: usize) -> usize
-    requires { ⌜ Listable document (now nodes) count ⌝ }
-    ensures { λ r. ⌜ Long (lines (view (elementsIn document)) (take count (now (nodes .entry)))) linesLimit r ⌝ }
-{
-    let mut sum: usize = 0;
-    let mut i: usize = 0;
-    while i < count {
-        sum += line_length(document, nodes[i]);
-        i += 1;
-    }
-    sum
-}
-
-// How long the listing of the first count nodes is.
-pub fn length(document: Document, nodes: &[u8], count: usize) -> usize
-    requires { ⌜ Listable document (now nodes) count ⌝ }
-    ensures { λ r. ⌜ Long (listing (view (elementsIn document)) (take count (now (nodes .entry)))) listingLimit r ⌝ }
-{
-    first_line_length(count as u16) + lines_length(document, nodes, count)
-}
-
-// Writes the listing of the first count nodes to the buffer's start, and answers where it ends.
-pub fn write(document: Document, nodes: &[u8], count: usize, out: &mut [u8]) -> usize
-    requires { ⌜ Listable document (now nodes) count ⌝ }
-    requires { ⌜ length (listing (view (elementsIn document)) (take count (now nodes))) ≤ length (now out) ⌝ }
-    ensures { λ r. ⌜ Put 0 (listing (view (elementsIn document)) (take count (now (nodes .entry)))) (now (out .entry)) (now (out .exit)) r ⌝ }
+// Writes the listing of the first count nodes to the buffer's start, and answers where it ends. The nodes are those of the
+// first n elements that are kept.
+pub fn write(kept: &[u32], n: usize, nodes: &[u8], count: usize, out: &mut [u8]) -> usize
+    requires { ⌜ Listable (now kept) n (now nodes) count × (length (listing (shown (now kept) n) (take count (now nodes))) ≤ length (now out)) ⌝ }
+    ensures { λ r. ⌜ Put 0 (listing (shown (now (kept .entry)) n) (take count (now (nodes .entry)))) (now (out .entry)) (now (out .exit)) r ⌝ }
 {
     let next = first_line(out, count as u16);
-    lines(document, nodes, count, out, next)
+    lines(kept, n, nodes, count, out, next)
 }
 
 // The word `refused` and a space, at the start.
@@ -170,5 +112,5 @@ pub fn refusal(number: u8, out: &mut [u8]) -> usize
     ensures { λ r. ⌜ Put 0 (refusal number) (now (out .entry)) (now (out .exit)) r ⌝ }
 {
     let next = refused(out);
-    field(out, next, wide(number), b'\n')
+    field(out, next, number as u16, b'\n')
 }

@@ -12,6 +12,5 @@ line-spec =
     (λ c κs. search laws)
     (λ c κs. search laws)
     (λ c κs. search laws)
-    (λ c κs. search laws)
     (λ c. search laws)
     (λ c. search laws))

@@ -5,4 +5,4 @@ use Rattle.text.proofs.refusal.Tie as tie
 
 pub refusal-spec : {M : Type 1} → statement M
 refusal-spec =
-    tie.close (tie.spec (λ c κs. search laws) (λ c κs. search laws) (λ c κs. search laws) (λ c. search laws) (λ c. search laws))
+    tie.close (tie.spec (λ c κs. search laws) (λ c κs. search laws) (λ c. search laws) (λ c. search laws))
