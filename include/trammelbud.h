@@ -78,7 +78,7 @@ enum tb_refusal {
 #define TB_PROGRAM_ROOM 78     /* 6 + 3 for each step */
 #define TB_NODES_ROOM 128      /* n + 1 */
 #define TB_WORK_ROOM 49152     /* TB_STEP_ROOM for each step */
-#define TB_LISTING_ROOM 1563   /* "selected 128" and a line a node, all as long as they get */
+#define TB_LISTING_ROOM 1677   /* 13 bytes for each node, and for the first line */
 
 /* What a call answers. */
 typedef struct tb_answer {
@@ -194,8 +194,9 @@ tb_answer tb_select(const uint8_t *gra, size_t gra_len,
  * nodes to `text`: `selected` and their count, then a line of number, type and
  * text number for each, in decimal with one space between; node 0 is `0 16 0`.
  * Byte 10 ends each line and nothing ends the text. Answers its length.
- * Room: that length, at most TB_LISTING_ROOM, and TB_STEP_ROOM bytes of `work`
- * for each step, which are left as tb_select leaves them.
+ * Room: 13(n+2) bytes, which the longest listing of n elements takes, at most
+ * TB_LISTING_ROOM, and TB_STEP_ROOM bytes of `work` for each step, which are
+ * left as tb_select leaves them.
  * Refusals: those of tb_select. */
 tb_answer tb_list(const uint8_t *gra, size_t gra_len,
                   const uint8_t *edg, size_t edg_len,

@@ -46,9 +46,9 @@ class Buffers(unittest.TestCase):
         self.assertEqual(trammelbud.rebuild_into(GRAPH, TABLES, rebuilt), 45)
         self.assertEqual(rebuilt, DOCUMENT)
         self.assertEqual(trammelbud.translate_into(GRAPH, query(5), program), 30)
-        text, work = bytearray(len(LISTING)), bytearray(8 * 2048)
+        text, work = bytearray(130), bytearray(8 * 2048)
         self.assertEqual(trammelbud.list_into(GRAPH, TABLES, query(5), text, work), len(LISTING))
-        self.assertEqual(text.decode("ascii"), LISTING)
+        self.assertEqual(text, LISTING.encode("ascii") + bytes(130 - len(LISTING)))
         self.assertEqual(work, trammelbud.select(GRAPH, TABLES, query(5)).work)
 
     def test_a_lent_buffer_is_free_again(self) -> None:

@@ -19,7 +19,7 @@ _TABLES_ROOM = 530
 _DOCUMENT_ROOM = 640
 _PROGRAM_ROOM = 78
 _NODES_ROOM = 128
-_LISTING_ROOM = 1563
+_LISTING_ROOM = 1677
 _WORK_ROOM = STEP_ROOM * MOST_STEPS
 
 # Where a program's file has its number of steps.

@@ -68,6 +68,6 @@ def select_into(gra: Bytes, edg: Bytes, qry: Bytes, out: bytearray, work: bytear
 def list_into(gra: Bytes, edg: Bytes, qry: Bytes, text: bytearray, work: bytearray) -> int:
     """Writes the listing of a query's nodes to `text`; answers its length.
 
-    `work` is as for `select_into`.
+    `text` has room for 13(n+2) bytes; `work` is as for `select_into`.
     """
     return call("tb_list", [gra, edg, qry], [text, work])

@@ -56,6 +56,15 @@ impl Writing {
         }
     }
 
+    /// A listing: the room is asked for that the longest one of so many
+    /// elements would take, a line of 13 bytes for each node and the first.
+    fn listing(document: &Document, nodes: u128) -> Writing {
+        Writing {
+            bytes: listing::text(document, nodes).into_bytes(),
+            room: 13 * (document.elements() + 2),
+        }
+    }
+
     fn nodes(document: &Document, nodes: u128) -> Writing {
         Writing {
             bytes: runner::listed(nodes),
@@ -151,10 +160,10 @@ pub fn select(gra: &[u8], edg: &[u8], qry: &[u8]) -> Result<Plan, Refusal> {
 
 pub fn list(gra: &[u8], edg: &[u8], qry: &[u8]) -> Result<Plan, Refusal> {
     let asked = Asked::read(gra, edg, qry)?;
-    let text = listing::text(&asked.document, asked.nodes).into_bytes();
+    let text = Writing::listing(&asked.document, asked.nodes);
     Ok(Plan {
-        count: text.len() as u32,
-        lent: vec![Writing::exactly(text), Writing::work(&asked.made())],
+        count: text.bytes.len() as u32,
+        lent: vec![text, Writing::work(&asked.made())],
     })
 }
 
