@@ -22,33 +22,34 @@ use Rattle.graph.specs.Gra.{graphFile}
 use Rattle.graph.specs.Answers.{graphRead}
 use Rattle.graph.proofs.Held.{graph-turned, graph-held, graph-legal}
 use Rattle.program.specs.declared.ProgramRead.{ProgramRead}
-use Rattle.program.specs.Rel.{programFile}
+use Rattle.rel.specs.Rel.{programFile}
 use Rattle.program.specs.Answers.{programRead}
 use Rattle.program.proofs.Held.{program-turned, program-held, program-count, program-legal}
-use Rattle.announce.specs.declared.Announced.{Announced}
+use Rattle.masks.specs.declared.Announced.{Announced}
+use Rattle.masks.specs.Pairs.{relOf, Legal}
+use Rattle.masks.specs.Announcement.{announcement}
+use Rattle.masks.proofs.Announcement.{nothing-on, sets-made, blank, announcement-shown}
 use Rattle.announce.specs.declared.Checked.{Checked}
-use Rattle.announce.specs.Pairs.{relOf, Legal}
-use Rattle.announce.specs.Check.{announcement, checked, checkOf}
-use Rattle.announce.proofs.Announcement.{nothing-on, sets-made, blank, announcement-shown}
+use Rattle.announce.specs.Check.{checked, checkOf}
 
 pub refused-made : (r : Refusal) (n : ℕ) (e : Announced) → n ≡ numberOf (r .reason) → length (e .pairs) ≡ kinds → relOf e ≡ nothing
     → record { number = n; steps = replicate stepLimit e } ≡ checked (refused r)
 unfolding checked
 refused-made r n e q l h = rw (q, sets-made nothing nothing-on e l h)
 
-module _ (gra rel : List ℕ) (x : GraphRead) (p : x ≡ graphRead (graphFile gra 0)) {c : Checked} where
-  pub no-graph : {r : Refusal} → x .outcome ≡ Refused r → c ≡ checked (refused r) → c ≡ checkOf gra rel
+module _ (gra rel : List ℕ) (x : GraphRead) (p : x ≡ graphRead (graphFile gra 0)) where
+  pub no-graph : {c : Checked} {r : Refusal} → x .outcome ≡ Refused r → c ≡ checked (refused r) → c ≡ checkOf gra rel
   unfolding checkOf checked
   no-graph h e = e ∙ rw (graph-turned gra p h)
 
   module _ (h : x .outcome ≡ Accepted) (y : ProgramRead) (q : y ≡ programRead (programFile (x .graph .k) rel 0)) where
-    pub no-program : {r : Refusal} → y .outcome ≡ Refused r → c ≡ checked (refused r) → c ≡ checkOf gra rel
+    pub no-program : {c : Checked} {r : Refusal} → y .outcome ≡ Refused r → c ≡ checked (refused r) → c ≡ checkOf gra rel
     unfolding checkOf checked
     no-program i e = e ∙ rw (graph-held gra p h .1, program-turned (x .graph .k) rel q i)
 
-    pub all-read : y .outcome ≡ Accepted → c ≡ record { number = 0; steps = announcement (x .graph) (operationsIn (y .program)) } → c ≡ checkOf gra rel
+    pub all-read : {steps : List Announced} → y .outcome ≡ Accepted → steps ≡ announcement (x .graph) (operationsIn (y .program)) → record { number = 0; steps = steps } ≡ checkOf gra rel
     unfolding checkOf checked
-    all-read i e = e ∙ rw (graph-held gra p h .1, program-held (x .graph .k) rel q i .1)
+    all-read i e = rw (e, graph-held gra p h .1, program-held (x .graph .k) rel q i .1)
 
 -- what both readers accepted is legal
 pub both-legal : (gra rel : List ℕ) (x : GraphRead) (y : ProgramRead) → ((i : ℕ) → Fits w8 (getD gra i 0)) → ((i : ℕ) → Fits w8 (getD rel i 0))

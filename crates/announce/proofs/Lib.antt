@@ -1,6 +1,1 @@
-pub mod Rows
-pub mod Algebra
-pub mod Operations
-pub mod Announcement
-pub mod Loop
 pub mod Answers

@@ -1,28 +1,16 @@
 -- The check: it reads the graph and the program, and hands back one set of kinds for each of 17 kinds, for each step.
-use Prim.Native.Nat.{ℕ, _-_}
-use mathlib.Core.List.{List, _++_, map}
-use lib.ListN.{length, replicate}
-use Rattle.meaning.specs.declared.Graph.{Graph}
-use Rattle.meaning.specs.declared.Operation.{Operation}
-use Rattle.meaning.specs.Limits.{kinds, stepLimit}
-use Rattle.meaning.specs.Sets.{mask}
-use Rattle.meaning.specs.Lists.{table}
-use Rattle.meaning.specs.Relations.{Relation, nothing}
-use Rattle.meaning.specs.Announcements.{announced}
+use Prim.Native.Nat.{ℕ}
+use mathlib.Core.List.{List}
+use lib.ListN.{replicate}
+use Rattle.meaning.specs.Limits.{stepLimit}
+use Rattle.meaning.specs.Relations.{nothing}
 use Rattle.meaning.specs.Refused.{numberOf}
 use Rattle.fields.specs.Read.{Read, got, refused, bind}
 use Rattle.graph.specs.Gra.{graphFile}
-use Rattle.program.specs.Rel.{programFile}
-use Rattle.announce.specs.declared.Announced.{Announced}
+use Rattle.rel.specs.Rel.{programFile}
+use Rattle.masks.specs.declared.Announced.{Announced}
+use Rattle.masks.specs.Announcement.{announcedSets, announcement}
 use Rattle.announce.specs.declared.Checked.{Checked}
-
--- for each kind A, the set of the kinds B with (A, B) in the relation
-unfoldable pub announcedSets : Relation → Announced
-announcedSets r = record { pairs = table (λ A. mask kinds (λ B. r A B)) 0 kinds }
-
--- steps past the end have empty sets
-unfoldable pub announcement : Graph → List Operation → List Announced
-announcement g os = map announcedSets (announced g os) ++ replicate (stepLimit - length os) (announcedSets nothing)
 
 -- what the check answers of the graph and the program that it has read
 unfoldable pub checked : Read (List Announced) → Checked

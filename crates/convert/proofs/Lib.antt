@@ -1,8 +1,3 @@
-pub mod RebuildLaws
-pub mod RebuildTurns
-pub mod RebuildAnswers
-pub mod ShredRows
-pub mod ShredTables
-pub mod ShredLaws
-pub mod ShredAnswers
+-- The laws behind the conversions of files, and the round trips.
+pub mod Answers
 pub mod RoundTrips

@@ -11,16 +11,18 @@ use Rattle.fields.specs.Read.{got}
 use Rattle.fields.specs.Write.{Bytes}
 use Rattle.graph.specs.Gra.{graphFile}
 use Rattle.graph.proofs.File.{graph-read}
-use Rattle.document.specs.Tre.{documentFile, documentBytes}
-use Rattle.document.proofs.File.{document-read, document-written}
-use Rattle.tables.specs.Edg.{tablesFile, tablesBytes}
-use Rattle.tables.proofs.File.{tables-read, tables-written}
+use Rattle.tre.specs.Tre.{documentFile, documentBytes}
+use Rattle.tre.proofs.File.{document-read, document-written}
+use Rattle.edg.specs.Edg.{tablesFile, tablesBytes}
+use Rattle.edg.proofs.File.{tables-read, tables-written}
 use Rattle.writing.specs.Lent.{Lent, accepted, stored, lent, fileIn}
 use Rattle.writing.proofs.Stored.{stored-there, stored-file}
+use Rattle.shredder.specs.Shred.{tablesLength}
+use Rattle.shredder.proofs.Answers.{tables-length}
+use Rattle.rebuilder.specs.Rebuild.{documentLength}
+use Rattle.rebuilder.proofs.Closes.{document-length}
 use Rattle.convert.specs.Convert.{shredded, rebuilt}
-use Rattle.convert.specs.RoundTrips.{tablesLength, documentLength, DocumentReturns, TablesReturn}
-use Rattle.convert.proofs.RebuildLaws.{document-length}
-use Rattle.convert.proofs.ShredLaws.{tables-length}
+use Rattle.convert.specs.RoundTrips.{DocumentReturns, TablesReturn}
 
 -- One call writes a file, and another writes of that file what there was before.
 record Trip (file before : List ℕ) (there : Lent) (back : List ℕ → Lent) : Type 0 where
@@ -66,7 +68,7 @@ module _ (gra : List ℕ) (g : Graph) (es : List Element) (m n : ℕ) (out back 
   tables-return edg more read room room-back =
       let legal = graph-read gra bytes g m graph .0 in
       let (judged, same) = tables-read elementLimit g more read in
-      let long = document-length elementLimit g es judged in
+      let long = document-length judged in
       let again = document-written legal judged in
       let there = rebuilt-is gra g m graph edg out read in
       let t = trip (documentBytes es) edg out back (λ f. shredded gra f back) there (omega (arith, long)) (rw same (shredded-is gra g m graph (documentBytes es) back again)) room-back in

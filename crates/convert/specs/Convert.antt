@@ -5,8 +5,8 @@ use mathlib.Core.List.{List}
 use Rattle.meaning.specs.Limits.{elementLimit}
 use Rattle.fields.specs.Read.{got, bind}
 use Rattle.graph.specs.Gra.{graphFile}
-use Rattle.document.specs.Tre.{documentFile, documentBytes}
-use Rattle.tables.specs.Edg.{tablesFile, tablesBytes}
+use Rattle.tre.specs.Tre.{documentFile, documentBytes}
+use Rattle.edg.specs.Edg.{tablesFile, tablesBytes}
 use Rattle.writing.specs.Lent.{Lent, lent}
 
 unfoldable pub shredded : List ℕ → List ℕ → List ℕ → Lent

@@ -1,4 +1,4 @@
--- The shredder and the rebuilder, and what is promised of the two together.
+-- The shredder and the rebuilder over files, and what is promised of the two together.
 pub mod Convert
 pub mod Shred
 pub mod Rebuild

@@ -1,5 +1,5 @@
 -- The two round trips, over the contracts of the calls.
-use Prim.Native.Nat.{ℕ, _+_, _*_}
+use Prim.Native.Nat.{ℕ}
 use mathlib.Core.Path.{_≡_}
 use mathlib.Core.List.{List}
 use lib.ListN.{length}
@@ -7,17 +7,12 @@ use Rattle.meaning.specs.declared.Graph.{Graph}
 use Rattle.meaning.specs.declared.Element.{Element}
 use Rattle.meaning.specs.Limits.{elementLimit}
 use Rattle.fields.specs.Read.{got}
-use Rattle.document.specs.Tre.{documentFile}
-use Rattle.tables.specs.Edg.{tablesFile}
+use Rattle.tre.specs.Tre.{documentFile}
+use Rattle.edg.specs.Edg.{tablesFile}
 use Rattle.writing.specs.Lent.{accepted, fileIn}
+use Rattle.shredder.specs.Shred.{tablesLength}
+use Rattle.rebuilder.specs.Rebuild.{documentLength}
 use Rattle.convert.specs.Convert.{shredded, rebuilt}
-
--- what shredding needs and writes for n elements under k types, and what rebuilding does
-abbrev pub tablesLength : ℕ → ℕ → ℕ
-tablesLength k n = 6 + k + 4 * n
-
-abbrev pub documentLength : ℕ → ℕ
-documentLength n = 5 + 5 * n
 
 -- An accepted document, given the room, is shredded into tables that are accepted and hold the same elements, and
 -- rebuilding these gives its bytes.

@@ -1,3 +1,3 @@
-// The shredder and the rebuilder: documents to tables and back.
+// The shredder and the rebuilder over files: documents to tables and back.
 pub mod rebuild;
 pub mod shred;

@@ -1,7 +1,3 @@
--- The laws behind the reader, and the two laws of the file.
+-- The laws behind the reader.
 pub mod Tokens
-pub mod Bounds
 pub mod Reading
-pub mod Runs
-pub mod Climbs
-pub mod File

@@ -1,3 +1,2 @@
--- The document file, and what the parts of its reader hand to each other.
-pub mod Tre
+-- What the parts of the reader hand to each other.
 pub mod States

@@ -4,23 +4,22 @@ use mathlib.Core.Path.{_≡_}
 use mathlib.Core.List.{List}
 use lib.ListN.{length}
 use Rattle.meaning.specs.Limits.{elementLimit}
-use Rattle.meaning.specs.Records.{elementsIn}
-use Rattle.fields.specs.Kept.{documentIn}
 use Rattle.fields.specs.Read.{Read, beside}
+use Rattle.elements.specs.Kept.{keptIn}
+use Rattle.tre.specs.Tre.{Open}
 use Rattle.document.specs.declared.Standing.{Standing}
 use Rattle.document.specs.declared.Turn.{Turn}
-use Rattle.document.specs.Tre.{Open}
 
 -- what is open: the elements are the first that are kept
 unfoldable pub openIn : List ℕ → Standing → Open
-openIn kept st = record { elements = elementsIn (documentIn kept (st .count)); inner = st .inner }
+openIn kept st = record { elements = keptIn kept (st .count); inner = st .inner }
 
 -- there is a place for each element that a document may have, and no more are kept
-pub record Kept (kept : List ℕ) (st : Standing) : Type 0 where
+pub record HasRoom (kept : List ℕ) (st : Standing) : Type 0 where
   pub long : length kept ≡ elementLimit
   pub most : st .count ≤ elementLimit
 
 -- e was read: it is what is open, or a part of it, beside where reading goes on, or the refusal was met
 pub record Answers {A : Type 0} (part : Open → A) (kept : List ℕ) (turn : Turn) (e : Read A) : Type 0 where
-  pub room : Kept kept (turn .standing)
-  pub right : beside (turn .next) (part (openIn kept (turn .standing))) ≡ e
+  pub room : HasRoom kept (turn .state)
+  pub right : beside (turn .next) (part (openIn kept (turn .state))) ≡ e

@@ -1,30 +1,26 @@
 // The reader of document files: one loop over the tokens. It needs no stack, for the parent of the innermost open
 // element is kept with the element.
 ghost use mathlib.Core.Path.{_≡_};
-ghost use mathlib.Core.List.{[]};
 ghost use Prim.Native.Nat.{_<_};
 ghost use lib.ListN.{length};
 ghost use Rattle.meaning.specs.Limits.{elementLimit};
-ghost use Rattle.meaning.specs.Graphs.{childKind};
-ghost use Rattle.meaning.specs.Documents.{node};
-ghost use Rattle.fields.specs.Outcomes.{documentRead};
-ghost use Rattle.document.specs.Tre.{nothingOpen, pushed, opened, closed, token, tokens, documentFile};
-ghost use Rattle.document.specs.States.{openIn, Kept, Answers};
+ghost use Rattle.fields.specs.Read.{readOf};
+ghost use Rattle.elements.specs.Kept.{Keeps};
+ghost use Rattle.tre.specs.Tre.{nothingOpen, pushed, popped, code, newType, opened, token, tokens, documentFile};
+ghost use Rattle.document.specs.States.{openIn, HasRoom, Answers};
+use elements::ElementsRead;
+use elements::node_at;
+use elements::packed;
+use elements::turned_away;
 use fields::Cursor;
 use fields::Field;
-use fields::kept::BLANK;
-use fields::kept::document_in;
-use fields::kept::node_at;
-use fields::kept::packed;
-use fields::turned_away;
-use meaning::DocumentRead;
 use meaning::Element;
 use meaning::Graph;
 use meaning::Outcome;
 use meaning::Reason;
-
-// Elements of a document.
-const LIMIT: usize = 127;
+use meaning::SMALL;
+use numbers::u16_to_u8;
+use numbers::usize_to_u8;
 
 // Where reading stands: how many elements are kept so far, and the innermost that is open.
 struct Standing {
@@ -34,38 +30,49 @@ struct Standing {
 
 // After a token: where reading stands, and where it goes on or the refusal.
 struct Turn {
-    standing: Standing,
+    state: Standing,
     next: Field,
 }
 
-impl Standing {
-    // The refusal beside where reading stands.
-    fn stopped(self, refusal: Field) -> Turn
-        ensures { λ r. ⌜ r ≡ record { standing = self; next = refusal } ⌝ }
-    {
-        Turn {
-            standing: self,
-            next: refusal,
-        }
+// The code of a token, behind so many elements.
+fn code(s: &[u8], c: Cursor, count: usize) -> Field
+    ensures { λ r. ⌜ readOf r ≡ code elementLimit count (now (s .entry)) (c .at) ⌝ }
+{
+    let read = c.byte(s);
+    let Field::Got(code, _) = read else {
+        return read;
+    };
+    match code {
+        0x01 => c.judged(read, count < SMALL.elements, Reason::Bound),
+        0x02 => c.judged(read, 0 < count, Reason::Edge),
+        _ => c.refuse(Reason::Code),
     }
+}
 
-    // Whether an element of that type may stand in the innermost.
-    fn takes(self, kept: &[u32], g: Graph, kind: u8) -> bool
-        requires { ⌜ Kept (now kept) self ⌝ }
-        ensures { λ r. ⌜ r ≡ childKind g (node (openIn (now (kept .entry)) self .elements) (self .inner) .kind) kind ⌝ }
+impl Standing {
+    // The type of an element that may stand in the innermost.
+    fn new_type(self, kept: &[u32], s: &[u8], g: Graph, c: Cursor) -> Field
+        requires { ⌜ HasRoom (now kept) self ⌝ }
+        ensures { λ r. ⌜ readOf r ≡ newType g (openIn (now (kept .entry)) self) (now (s .entry)) (c .at) ⌝ }
     {
+        let read = c.byte_below(s, g.k, Reason::Kind);
+        let Field::Got(t, _) = read else {
+            return read;
+        };
         let inner = node_at(kept, self.count, self.inner);
-        kinds::is_child(g, inner.kind, kind)
+        c.judged(
+            read,
+            kinds::is_child(g, inner.kind, u16_to_u8(t)),
+            Reason::Edge,
+        )
     }
 
     // The new element goes behind the last, and is the innermost.
     fn push(self, kept: &mut [u32], kind: u8, text: u16) -> Standing
-        requires { ⌜ Kept (now kept) self ⌝ }
-        requires { ⌜ self .count < elementLimit ⌝ }
-        ensures { λ r. ⌜ Kept (now (kept .exit)) r × (openIn (now (kept .exit)) r ≡ pushed (openIn (now (kept .entry)) self) kind text) ⌝ }
+        requires { ⌜ HasRoom (now kept) self × (self .count < elementLimit) ⌝ }
+        ensures { λ r. ⌜ HasRoom (now (kept .exit)) r × (openIn (now (kept .exit)) r ≡ pushed (openIn (now (kept .entry)) self) kind text) ⌝ }
     {
         let count = self.count;
-        let last = count as u8;
         kept[count] = packed(Element {
             parent: self.inner,
             kind,
@@ -73,69 +80,51 @@ impl Standing {
         });
         Standing {
             count: count + 1,
-            inner: last + 1,
+            inner: usize_to_u8(count + 1),
         }
     }
 
-    // After 01: the count, the type, the edge or root, then the text.
+    // After 01: the type, then the text.
     fn opened(self, kept: &mut [u32], s: &[u8], g: Graph, c: Cursor) -> Turn
-        requires { ⌜ Kept (now kept) self ⌝ }
-        ensures { λ r. ⌜ Answers (λ o. o) (now (kept .exit)) r (opened elementLimit g (openIn (now (kept .entry)) self) (now (s .entry)) (c .at)) ⌝ }
+        requires { ⌜ HasRoom (now kept) self × (self .count < elementLimit) ⌝ }
+        ensures { λ r. ⌜ Answers (λ o. o) (now (kept .exit)) r (opened g (openIn (now (kept .entry)) self) (now (s .entry)) (c .at)) ⌝ }
     {
-        if LIMIT <= self.count {
-            return self.stopped(fields::refuse(Reason::Bound));
-        }
-        let typed = c.byte(s);
-        let Field::Got(t, after) = typed else {
-            return self.stopped(typed);
+        let next = self.new_type(kept, s, g, c);
+        let Field::Got(t, after) = next else {
+            return Turn { state: self, next };
         };
-        let k = g.k as u16;
-        if k <= t {
-            return self.stopped(fields::refuse(Reason::Kind));
-        }
-        let kind = t as u8;
-        if !self.takes(kept, g, kind) {
-            return self.stopped(fields::refuse(Reason::Edge));
-        }
-        let said = after.word(s);
-        let Field::Got(text, next) = said else {
-            return self.stopped(said);
+        let next = after.word(s);
+        let Field::Got(text, _) = next else {
+            return Turn { state: self, next };
         };
-        Turn {
-            standing: self.push(kept, kind, text),
-            next: Field::Got(0, next),
-        }
+        let state = self.push(kept, u16_to_u8(t), text);
+        Turn { state, next }
     }
 
-    // After 02, which no file begins with. The parent is the innermost again.
-    fn closed(self, kept: &[u32], c: Cursor) -> Turn
-        requires { ⌜ Kept (now kept) self ⌝ }
-        ensures { λ r. ⌜ Answers (λ o. o) (now (kept .entry)) r (closed (openIn (now (kept .entry)) self) [] (c .at)) ⌝ }
+    // After 02: the parent is the innermost again.
+    fn popped(self, kept: &[u32]) -> Standing
+        requires { ⌜ HasRoom (now kept) self ⌝ }
+        ensures { λ r. ⌜ HasRoom (now (kept .entry)) r × (openIn (now (kept .entry)) r ≡ popped (openIn (now (kept .entry)) self)) ⌝ }
     {
-        let count = self.count;
-        if count == 0 {
-            return self.stopped(fields::refuse(Reason::Edge));
-        }
-        let inner = node_at(kept, count, self.inner).parent;
-        Turn {
-            standing: Standing { count, inner },
-            next: Field::Got(0, c),
+        Standing {
+            count: self.count,
+            inner: node_at(kept, self.count, self.inner).parent,
         }
     }
 
     fn token(self, kept: &mut [u32], s: &[u8], g: Graph, c: Cursor) -> Turn
-        requires { ⌜ Kept (now kept) self ⌝ }
+        requires { ⌜ HasRoom (now kept) self ⌝ }
         ensures { λ r. ⌜ Answers (λ o. o) (now (kept .exit)) r (token elementLimit g (openIn (now (kept .entry)) self) (now (s .entry)) (c .at)) ⌝ }
     {
-        let coded = c.byte(s);
-        let Field::Got(code, after) = coded else {
-            return self.stopped(coded);
+        let next = code(s, c, self.count);
+        let Field::Got(code, after) = next else {
+            return Turn { state: self, next };
         };
-        match code {
-            0x01 => self.opened(kept, s, g, after),
-            0x02 => self.closed(kept, after),
-            _ => self.stopped(fields::refuse(Reason::Code)),
+        if code == 0x01 {
+            return self.opened(kept, s, g, after);
         }
+        let state = self.popped(kept);
+        Turn { state, next }
     }
 }
 
@@ -152,7 +141,7 @@ fn read_tokens(kept: &mut [u32], s: &[u8], g: Graph, first: Cursor) -> Turn
         let Field::Got(_, after) = next else {
             return turn;
         };
-        standing = turn.standing;
+        standing = turn.state;
         if standing.inner == 0 {
             return turn;
         }
@@ -160,16 +149,15 @@ fn read_tokens(kept: &mut [u32], s: &[u8], g: Graph, first: Cursor) -> Turn
     }
 }
 
-// The elements are kept in an array that is lent to the functions above: handed on by value, each call would copy them.
-pub fn read(s: &[u8], g: Graph) -> DocumentRead
-    ensures { λ r. ⌜ r ≡ documentRead (documentFile elementLimit g (now (s .entry)) 0) ⌝ }
+pub fn read(s: &[u8], g: Graph, kept: &mut [u32]) -> ElementsRead
+    requires { ⌜ length (now kept) ≡ elementLimit ⌝ }
+    ensures { λ r. ⌜ Keeps (documentFile elementLimit g (now (s .entry)) 0) (now (kept .exit)) r ⌝ }
 {
-    let headed = Cursor::start().header(s, b'T', b'R', b'E');
+    let headed = Cursor::start().header(s, b'T', b'R', b'E', 1);
     let Field::Got(_, first) = headed else {
         return turned_away(headed);
     };
-    let mut kept = [BLANK; LIMIT];
-    let turn = read_tokens(&mut kept, s, g, first);
+    let turn = read_tokens(kept, s, g, first);
     let next = turn.next;
     let Field::Got(_, last) = next else {
         return turned_away(next);
@@ -178,9 +166,9 @@ pub fn read(s: &[u8], g: Graph) -> DocumentRead
     let Field::Got(_, _) = ended else {
         return turned_away(ended);
     };
-    let standing = turn.standing;
-    DocumentRead {
+    let state = turn.state;
+    ElementsRead {
         outcome: Outcome::Accepted,
-        document: document_in(&kept, standing.count),
+        count: state.count,
     }
 }

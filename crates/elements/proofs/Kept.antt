@@ -9,9 +9,15 @@ use borrow.Author.Needs.{needs}
 use Rattle.meaning.specs.declared.Element.{Element}
 use Rattle.meaning.specs.Documents.{node, documentNode}
 use Rattle.meaning.specs.declared.Outcome.{Outcome}
-use Rattle.elements.specs.declared.ElementsRead.{ElementsRead}
-use Rattle.elements.specs.Kept.{elementIn, keptIn}
+use Rattle.meaning.specs.declared.Outcome.the-variants.{Accepted}
+use Rattle.meaning.specs.declared.Refusal.{Refusal}
 use Rattle.meaning.proofs.Records.{at-any}
+use Rattle.fields.specs.Outcomes.{outcomeOf}
+use Rattle.fields.specs.Read.{Read, got, refused, readOf}
+use Rattle.fields.specs.declared.Field.{Field}
+use Rattle.fields.specs.declared.Field.the-variants.{Refused}
+use Rattle.elements.specs.declared.ElementsRead.{ElementsRead}
+use Rattle.elements.specs.Kept.{elementIn, keptIn, Keeps}
 
 pub packed-is : (e : Element) {p k x : ℕ} → p ≡ e .parent → k ≡ e .kind → x ≡ e .text → e .parent < 256 → e .kind < 256 → e .text < 65536 → elementIn ((p * 256 + k) * 65536 + x) ≡ e
 unfolding elementIn
@@ -47,6 +53,10 @@ module _ (kept : List ℕ) (count : ℕ) where
   held-past zero l = refl
   held-past (suc i) l = sym (List·getD-eq-default (take count (map elementIn kept)) documentNode (omega (arith, length-take count (map elementIn kept))))
 
+  pub held-room : length (keptIn kept count) ≡ count → count ≤ length kept
+  unfolding keptIn
+  held-room long = omega (arith, length-take count (map elementIn kept), length-map kept elementIn)
+
   module _ (room : count ≤ length kept) where
     pub held-long : length (keptIn kept count) ≡ count
     unfolding keptIn
@@ -62,3 +72,13 @@ module _ (kept : List ℕ) (count : ℕ) where
         ∙ rw before (at-any (map elementIn kept) i (elementIn 0) documentNode (omega (arith, length-map kept elementIn)) ∙ sym (getD-take count (map elementIn kept) i documentNode (omega arith)))
 
 pub ruleset node-laws = (node-zero, held-past, held-there, needs)
+
+-- What a reader of elements answers where a field turned it away, and where it was accepted.
+module _ {e : Read (List Element)} (kept : List ℕ) where
+  pub keeps-none : {x : Field} {r : Refusal} {y : ElementsRead} → y ≡ record { outcome = outcomeOf (readOf x); count = 0 } → x ≡ Refused r → e ≡ refused r → Keeps e kept y
+  unfolding keptIn
+  keeps-none h q same = rw (h, q, same) (record { outcome = refl; count = refl; elements = refl; room = omega arith })
+
+  pub keeps-all : {es : List Element} {n count : ℕ} → e ≡ got es n → count ≤ length kept → keptIn kept count ≡ es → Keeps e kept (record { outcome = Accepted; count = count })
+  keeps-all {count = count} same room held =
+      rw same (record { outcome = refl; count = sym (held-long kept count room) ∙ ap length held; elements = held; room = room })

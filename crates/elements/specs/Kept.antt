@@ -2,7 +2,7 @@
 use Prim.Native.Nat.{ℕ, _/_, _%_, _≤_}
 use mathlib.Core.Path.{_≡_}
 use mathlib.Core.List.{List, [], map}
-use lib.ListN.{length, take}
+use lib.ListN.{length, take, replicate}
 use Rattle.meaning.specs.declared.Element.{Element}
 use Rattle.fields.specs.Read.{Read}
 use Rattle.fields.specs.Outcomes.{outcomeOf, valueOr}
@@ -11,6 +11,10 @@ use Rattle.elements.specs.declared.ElementsRead.{ElementsRead}
 -- an element in 32 bits: parent, type and text number, from the highest bits down
 unfoldable pub elementIn : ℕ → Element
 elementIn n = record { parent = n / 16777216; kind = n / 65536 % 256; text = n % 65536 }
+
+-- n places where no element is kept yet: the document node in each
+abbrev pub blankPlaces : ℕ → List ℕ
+blankPlaces n = replicate n 1048576
 
 -- the first count elements that are kept
 unfoldable pub keptIn : List ℕ → ℕ → List Element

@@ -1,6 +1,5 @@
-pub mod Edges
+-- The laws behind the reader, the two laws of the file, and what callers know of a reading.
 pub mod MaskReading
 pub mod Reading
-pub mod KindMasks
 pub mod File
 pub mod Held

@@ -1,33 +1,19 @@
 -- Reading the masks: what holds before each turn of the loop, and one law for each return and for the turn.
-use Prim.Native.Nat.{ℕ, zero, suc, _+_, _-_, _*_, _/_, _^_, _<_, _≤_}
+use Prim.Native.Nat.{ℕ, suc, _+_, _-_, _<_, _≤_}
 use mathlib.Core.List.{List, [], _∷_, _++_, append-nil}
 use mathlib.Core.Path.{_≡_, refl, sym, ap, _∙_}
-use mathlib.Core.Bool.{Bool, true, false, not}
-use native.Mathlib.Nat.{sub-zero, div-eq-of-lt, div-lt-iff-lt-mul}
-use native.Mathlib.Numerals.{add-one, sub-one}
 use native.Mathlib.Omega.{arith}
-use lib.Dec.{eqb, ltb}
-use lib.Pow.{pow-pos}
-use lib.ListN.{length, take, drop, replicate, set, length-set, take-append-drop}
-use lib.Seq.{take-suc-set, drop-set-lt, drop-cons, append-snoc}
+use lib.ListN.{length, replicate, set, length-append}
+use lib.Seq.{set-at, append-snoc}
 use borrow.Author.Needs.{needs}
-use borrow.Author.Tests.{lt-ltb, ltb-true, eq-eqb, eqb-true, not-true, not-false}
-use Rattle.meaning.specs.declared.Reason.the-variants.{Kind}
 use Rattle.meaning.specs.declared.Refusal.{Refusal}
 use Rattle.meaning.specs.Limits.{types}
-use Rattle.meaning.proofs.Tests.{same}
 use Rattle.fields.specs.declared.Cursor.{Cursor}
 use Rattle.fields.specs.declared.Field.{Field}
 use Rattle.fields.specs.declared.Field.the-variants.{Got, Refused}
-use Rattle.fields.specs.Read.{Read, got, refused, bind, word, readOf}
+use Rattle.fields.specs.Read.{Read, got, refused, bind, maskBelow, readOf, beside}
 use Rattle.fields.proofs.Laws.{taken, handed}
-use Rattle.graph.specs.declared.MasksRead.{MasksRead}
-use Rattle.graph.specs.Gra.{masks}
-use Rattle.graph.specs.Answers.{masksRead}
-
--- what is answered where a field turned the masks away
-abbrev unreadBy : Field → MasksRead
-unreadBy x = record { passed = x; masks = replicate types 0 }
+use Rattle.graph.specs.Gra.{masks, allMasks}
 
 -- the reading comes to e, with what is in hand before it
 abbrev after : List ℕ → Read (List ℕ) → Read (List ℕ)
@@ -41,80 +27,51 @@ after-more : (xs : List ℕ) (m : ℕ) (e : Read (List ℕ)) → after xs (bind 
 after-more xs m (got ms n) = ap (λ (l : List ℕ). got l n) (sym (append-snoc xs m ms))
 after-more xs m (refused r) = refl
 
--- before turn i: those of the types below i are in xs, and the rest of xs is 0
+-- before turn i: the masks of the types below i are read, and zeros follow them
 pub record Sofar (s : List ℕ) (k start : ℕ) (xs : List ℕ) (at i : ℕ) : Type 0 where
-  pub most : i ≤ k
-  pub small : k ≤ types
-  pub long : length xs ≡ types
-  pub blank : drop i xs ≡ replicate (types - i) 0
-  pub reading : masks k k s start ≡ after (take i xs) (masks k (k - i) s at)
+  pub done : List ℕ
+  pub left : ℕ
+  pub count : length done ≡ i
+  pub all : i + left ≡ k
+  pub kept : xs ≡ done ++ replicate (types - i) 0
+  pub reading : masks k k s start ≡ after done (masks k left s at)
 
-pub masks-start : (s : List ℕ) (k at : ℕ) → k ≤ types → Sofar s k at (replicate types 0) at 0
-masks-start s k at l = record { most = omega arith; small = l; long = refl; blank = refl; reading = simp sub-zero (after-none (masks k k s at)) }
-
-module _ (s : List ℕ) (k at : ℕ) where
-  none-left : (n : ℕ) → n ≤ 0 → masks k n s at ≡ got [] at
-  unfolding masks
-  none-left zero l = refl
-  none-left (suc n) l = absurd (omega arith)
-
-  not-there : (n : ℕ) {r : Refusal} → 0 < n → word s at ≡ refused r → masks k n s at ≡ refused r
-  unfolding masks
-  not-there zero l e = absurd (omega arith)
-  not-there (suc n) l e = simp e
-
-  too-wide : (n : ℕ) {m d : ℕ} → 0 < n → word s at ≡ got m d → ltb m (2 ^ k) ≡ false → masks k n s at ≡ refused (record { reason = Kind })
-  unfolding masks
-  too-wide zero l e h = absurd (omega arith)
-  too-wide (suc n) l e h = simp (e, h)
-
-  one-more : (n : ℕ) {m d : ℕ} → 0 < n → word s at ≡ got m d → ltb m (2 ^ k) ≡ true → masks k n s at ≡ bind (masks k (n - 1) s d) (λ ms e. got (m ∷ ms) e)
-  unfolding masks
-  one-more zero l e h = absurd (omega arith)
-  one-more (suc n) l e h = simp (sub-one, e, h)
-
--- nothing is left of a number after a shift by k exactly when it is below 2 ^ k
-pub shifted-out : {w : ℕ} (k m : ℕ) → w ≡ m → eqb (w / 2 ^ k) 0 ≡ ltb m (2 ^ k)
-shifted-out k m e =
-    rw e
-    (same _ _
-    (λ t. let z = eqb-true (m / 2 ^ k) 0 t in
-    let l : m < 1 * 2 ^ k = div-lt-iff-lt-mul (pow-pos k) .0 (omega arith) in
-    lt-ltb m (2 ^ k) (omega arith))
-    (λ t. eq-eqb (m / 2 ^ k) 0 (div-eq-of-lt (ltb-true m (2 ^ k) t))))
+pub masks-start : (s : List ℕ) (k at : ℕ) → Sofar s k at (replicate types 0) at 0
+masks-start s k at = record { done = []; left = k; count = refl; all = omega arith; kept = refl; reading = after-none (masks k k s at) }
 
 module _ {s : List ℕ} {k start : ℕ} {xs : List ℕ} {c : Cursor} {i : ℕ} (h : Sofar s k start xs (c .at) i) where
-  pub masks-done : k ≤ i → record { passed = Got 0 c; masks = xs } ≡ masksRead k (masks k k s start)
+  pub masks-done : k ≤ i → got xs (c .at) ≡ allMasks k s start
+  unfolding masks allMasks
   masks-done l =
-      let e : i ≡ k = omega (arith, h .most) in
-      let whole : take i xs ++ replicate (types - k) 0 ≡ xs = rw (← e, ← h .blank) (take-append-drop i xs) in
-      sym (ap (masksRead k) (h .reading ∙ ap (after (take i xs)) (none-left s k (c .at) (k - i) (omega arith))) ∙ rw (append-nil (take i xs), whole))
+      let e : i ≡ k = omega (arith, h .all) in
+      let none : h .left ≡ 0 = omega (arith, h .all) in
+      let reading = rw none at (h .reading) in
+      let kept = rw e at (h .kept) in
+      simp (reading, append-nil, kept)
 
-  module _ {x : Field} (l : i < k) (p : readOf x ≡ word s (c .at)) where
-    pub masks-ended : {r : Refusal} {y : MasksRead} → x ≡ Refused r → y ≡ unreadBy x → y ≡ masksRead k (masks k k s start)
-    masks-ended {r} q e = e ∙ ap unreadBy q ∙ ap (masksRead k) (sym (h .reading ∙ ap (after (take i xs)) (not-there s k (c .at) (k - i) (omega arith) (handed p q))))
+  module _ (l : i < k) where
+    one-more : masks k k s start ≡ after (h .done) (bind (maskBelow k s (c .at)) λ m at. bind (masks k (h .left - 1) s at) λ ms n. got (m ∷ ms) n)
+    unfolding masks
+    one-more = let some : h .left ≡ suc (h .left - 1) = omega (arith, h .all) in rw some at (h .reading)
 
-    module _ {m : ℕ} {d : Cursor} {t : Bool} (q : x ≡ Got m d) (v : t ≡ ltb m (2 ^ k)) where
-      pub masks-wide : {z : Field} {y : MasksRead} → not t ≡ true → z ≡ Refused (record { reason = Kind }) → y ≡ unreadBy z → y ≡ masksRead k (masks k k s start)
-      masks-wide n f e =
-          e ∙ ap unreadBy f
-          ∙ ap (masksRead k) (sym (h .reading ∙ ap (after (take i xs)) (too-wide s k (c .at) (k - i) (omega arith) (taken p q) (sym v ∙ not-true t n))))
+    module _ {x : Field} (p : readOf x ≡ maskBelow k s (c .at)) where
+      pub masks-refused : {r : Refusal} → x ≡ Refused r → beside x xs ≡ allMasks k s start
+      unfolding allMasks
+      masks-refused q = simp (one-more, handed p q, q)
 
-      pub masks-again : not t ≡ false → Sofar s k start (set xs i m) (d .at) (i + 1)
-      masks-again z =
-          let inside : i < length xs = omega (arith, h .long, h .small) in
-          let fewer : types - i ≡ suc (types - suc i) = omega (arith, h .small) in
-          let left : k - i - 1 ≡ k - (i + 1) = omega arith in
+      pub masks-again : {m : ℕ} {d : Cursor} → k ≤ types → x ≡ Got m d → Sofar s k start (set xs i m) (d .at) (i + 1)
+      masks-again {m} {d} most q =
+          let fewer : types - i ≡ suc (types - (i + 1)) = omega arith in
           record {
-            most = omega arith;
-            small = h .small;
-            long = length-set xs i m ∙ h .long;
-            blank = rw (add-one, drop-set-lt (suc i) xs i m (omega arith)) (cc (drop-cons xs i 0 inside, rw fewer at (h .blank)));
-            reading =
-                h .reading
-                ∙ ap (after (take i xs)) (one-more s k (c .at) (k - i) (omega arith) (taken p q) (sym v ∙ not-false t z))
-                ∙ after-more (take i xs) m (masks k (k - i - 1) s (d .at))
-                ∙ rw (left, add-one, take-suc-set xs i m inside);
+            done = h .done ++ (m ∷ []);
+            left = h .left - 1;
+            count = omega (arith, length-append (h .done) (m ∷ []), h .count);
+            all = omega (arith, h .all);
+            kept =
+                ap (λ (l : List ℕ). set l i m) (rw fewer at (h .kept))
+                ∙ set-at (h .done) 0 (replicate (types - (i + 1)) 0) m i (h .count)
+                ∙ sym (append-snoc (h .done) m (replicate (types - (i + 1)) 0));
+            reading = one-more ∙ simp (taken p q) (after-more (h .done) m (masks k (h .left - 1) s (d .at)));
           }
 
-pub ruleset laws = (shifted-out, masks-start, masks-done, masks-ended, masks-wide, masks-again, needs)
+pub ruleset laws = (masks-start, masks-done, masks-refused, masks-again, needs)

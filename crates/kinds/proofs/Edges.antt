@@ -17,29 +17,27 @@ use Rattle.meaning.proofs.Tests.{fails}
 use Rattle.meaning.proofs.Bits.{bit-shifted, bits-below}
 use Rattle.meaning.proofs.Sets.{bit-none}
 
--- p is the place of a, and q that of b
-module _ (g : Graph) (a b : ℕ) {p : ℕ} (i : p ≡ a) where
-  pub edge-of-document : p ≡ document → eqb b (g .root) ≡ childKind g a b
+module _ (g : Graph) (a b : ℕ) where
+  pub edge-of-document : a ≡ document → eqb b (g .root) ≡ childKind g a b
   unfolding childKind
-  edge-of-document e = simp (eq-eqb _ _ (sym i ∙ e))
+  edge-of-document e = simp (eq-eqb _ _ e)
 
-  module _ (n : p ≡ document → ⊥) where
+  module _ (n : a ≡ document → ⊥) where
     no-document : eqb a document ≡ false
-    no-document = ne-eqb _ _ (λ e. n (i ∙ e))
+    no-document = ne-eqb _ _ n
 
-    pub no-such-type : types ≤ p → length (g .children) ≡ types → false ≡ childKind g a b
+    pub no-such-type : types ≤ a → length (g .children) ≡ types → false ≡ childKind g a b
     unfolding childKind
     no-such-type l e =
         let past : getD (g .children) a 0 ≡ 0 = List·getD-eq-default (g .children) 0 (omega arith) in
         simp (no-document, past) (sym (bit-none b))
 
-    module _ {q : ℕ} (j : q ≡ b) where
-      pub no-such-child : types ≤ q → Fits w16 (getD (g .children) a 0) → false ≡ childKind g a b
-      unfolding childKind
-      no-such-child l f = simp no-document (sym (fails (bit (getD (g .children) a 0) b) (λ h. omega (arith, bits-below types _ (f .fits) b h))))
+    pub no-such-child : types ≤ b → Fits w16 (getD (g .children) a 0) → false ≡ childKind g a b
+    unfolding childKind
+    no-such-child l f = simp no-document (sym (fails (bit (getD (g .children) a 0) b) (λ h. omega (arith, bits-below types _ (f .fits) b h))))
 
-      pub edge-of-type : {m : ℕ} {r : Bool} → m ≡ getD (g .children) p 0 → r ≡ bit m q → r ≡ childKind g a b
-      unfolding childKind
-      edge-of-type e t = simp no-document (t ∙ simp (e, i, j))
+    pub edge-of-type : {m : ℕ} {r : Bool} → m ≡ getD (g .children) a 0 → r ≡ bit m b → r ≡ childKind g a b
+    unfolding childKind
+    edge-of-type e t = simp no-document (t ∙ rw e)
 
 pub ruleset laws = (bit-shifted, edge-of-document, no-such-type, no-such-child, edge-of-type, needs)

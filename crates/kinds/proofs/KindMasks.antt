@@ -1,6 +1,6 @@
 -- Sets of kinds as masks: one law for each return, and for each turn of the two loops.
 use Prim.Native.Nat.{ℕ, _+_, _*_, _%_, _^_, _<_, _≤_}
-use mathlib.Core.Path.{_≡_, refl, sym, ap, _∙_}
+use mathlib.Core.Path.{_≡_, refl, sym, ap, _∙_, fun-ext}
 use mathlib.Core.Bool.{Bool, true, false, _&&_, _||_, cond}
 use native.Mathlib.Nat.{mod-eq-of-lt, lt-of-not-le}
 use native.Mathlib.Numerals.{add-one}
@@ -20,11 +20,11 @@ use Rattle.meaning.specs.Relations.{Relation, OneOrMore, one, more, within, clo
 use Rattle.meaning.specs.Graphs.{childKind, reachable, live}
 use Rattle.meaning.specs.Translation.{image}
 use Rattle.meaning.proofs.Tests.{never, fails, same, and-in, and-left, and-right, or-left, or-right, or-out}
-use Rattle.meaning.proofs.Sets.{any-in, any-out, bit-mask}
+use Rattle.meaning.proofs.Sets.{any-in, any-out, any-cong, bit-mask, bit-none, mask-below}
 use Rattle.meaning.proofs.Closure.{closure-sound}
 use Rattle.meaning.proofs.KindSets.{image-in, image-out}
 use Rattle.kinds.proofs.Edges.{edge-of-document, edge-of-type, no-such-type}
-use Rattle.meaning.proofs.Bits.{mask-cong, mask-none, mask-bits, mask-single, mask-or}
+use Rattle.meaning.proofs.Bits.{bit-or, below-bits, mask-cong, mask-none, mask-bits, mask-single, mask-or}
 
 pub single-none : (kind : ℕ) → kinds ≤ kind → 0 ≡ mask kinds (λ A. eqb A kind)
 single-none kind l = sym (mask-cong kinds _ (λ A. false) (λ A a. ne-eqb A kind (λ e. omega arith)) ∙ mask-none kinds)
@@ -36,17 +36,22 @@ single-one kind l =
 
 module _ (g : Graph) (kind : ℕ) where
   pub document-children : {p r : ℕ} → kind ≡ document → p ≡ g .root → r ≡ mask kinds (λ A. eqb A p) → r ≡ mask kinds (childKind g kind)
-  document-children e i q = q ∙ simp i (mask-cong kinds _ _ (λ B b. edge-of-document g kind B refl e))
+  document-children e i q = q ∙ simp i (mask-cong kinds _ _ (λ B b. edge-of-document g kind B e))
 
   pub type-children : {m : ℕ} → (kind ≡ document → ⊥) → Fits w16 (getD (g .children) kind 0) → m ≡ getD (g .children) kind 0 → m ≡ mask kinds (childKind g kind)
   type-children n f e =
-      e ∙ sym (mask-bits kinds _ (omega (arith, f .fits))) ∙ mask-cong kinds _ _ (λ B b. edge-of-type g kind B refl n refl refl refl)
+      e ∙ sym (mask-bits kinds _ (omega (arith, f .fits))) ∙ mask-cong kinds _ _ (λ B b. edge-of-type g kind B n refl refl)
 
-pub joined : {t : Bool} (c kind m n : ℕ) → t ≡ bit c kind → t ≡ true → bitOr m n ≡ cond (bit c kind) (bitOr m n) n
-joined c kind m n e q = rw (sym e ∙ q)
+module _ {t : Bool} (set kind row : ℕ) (e : t ≡ bit set kind) where
+  pub row-chosen : t ≡ true → row ≡ cond (bit set kind) row 0
+  row-chosen q = rw (sym e ∙ q)
 
-pub not-joined : {t : Bool} (c kind m n : ℕ) → t ≡ bit c kind → t ≡ false → n ≡ cond (bit c kind) (bitOr m n) n
-not-joined c kind m n e q = rw (sym e ∙ q)
+  pub none-chosen : t ≡ false → 0 ≡ cond (bit set kind) row 0
+  none-chosen q = rw (sym e ∙ q)
+
+pub chosen-bits : (t : Bool) (row B : ℕ) → bit (cond t row 0) B ≡ t && bit row B
+chosen-bits true row B = refl
+chosen-bits false row B = bit-none B
 
 module _ (n : ℕ) (f g : ℕ → Bool) where
   both-in : (u : ℕ) → u < n → f u ≡ true → g u ≡ true → any n (λ u. f u && g u) ≡ true
@@ -56,35 +61,38 @@ module _ (n : ℕ) (f g : ℕ → Bool) where
   both-out k = any-out n (λ u. f u && g u) (λ u l h. k u l (and-left (f u) (g u) h) (and-right (f u) (g u) h))
 
 -- after n turns of a loop over the kinds, m is F n
-pub record Upto (F : ℕ → ℕ) (n m : ℕ) : Type 0 where
+pub record Upto {T : Type 0} (F : ℕ → T) (n : ℕ) (m : T) : Type 0 where
   pub most : n ≤ kinds
   pub is : m ≡ F n
 
-upto-all : (F : ℕ → ℕ) {n m : ℕ} → Upto F n m → kinds ≤ n → m ≡ F kinds
+pub upto-all : {T : Type 0} (F : ℕ → T) {n : ℕ} {m : T} → Upto F n m → kinds ≤ n → m ≡ F kinds
 upto-all F {n} u l = let e : n ≡ kinds = omega (arith, u .most) in u .is ∙ ap F e
 
+module _ (rows : ℕ → ℕ) (set : ℕ) where
+  -- what the rows of the kinds below n have that are in the set
+  unfoldable pub imageUpto : ℕ → ℕ → Bool
+  imageUpto n B = any n (λ A. bit set A && bit (rows A) B)
+
+  pub image-none : Upto imageUpto 0 (bit 0)
+  unfolding imageUpto any
+  image-none = record { most = omega arith; is = fun-ext bit-none }
+
+  pub image-more : {n : ℕ} (found row next : ℕ) → Upto imageUpto n (bit found) → n < kinds → row ≡ rows n → next ≡ cond (bit set n) row 0
+      → Upto imageUpto (n + 1) (bit (bitOr next found))
+  unfolding imageUpto any
+  image-more {n} found row next u l q e = record {
+    most = omega arith;
+    is = fun-ext λ B. bit-or B next found ∙ simp (e, q, ap (λ f. f B) (u .is), add-one, chosen-bits (bit set n) (rows n) B);
+  }
+
+pub image-all : (r : Relation) (c found : ℕ) {n : ℕ} → Upto (imageUpto (λ A. mask kinds (r A)) c) n (bit found) → kinds ≤ n → found ≡ image r c
+unfolding imageUpto image
+image-all r c found u l =
+    let done : (B : ℕ) → bit found B ≡ any kinds (λ A. bit c A && bit (mask kinds (r A)) B) = λ B. ap (λ f. f B) (upto-all _ u l) in
+    sym (mask-bits kinds found (below-bits kinds found (λ B h. any-out kinds _ (λ A a e. mask-below kinds (r A) B (and-right (bit c A) _ e)) (sym (done B) ∙ h))))
+    ∙ mask-cong kinds _ _ (λ B b. done B ∙ any-cong kinds _ _ (λ A a. ap (λ t. bit c A && t) (bit-mask kinds (r A) B b)))
+
 module _ (r : Relation) (c : ℕ) where
-  -- the kinds that r relates some kind of c below n to
-  pub imageUpto : ℕ → ℕ
-  imageUpto n = mask kinds (λ B. any n (λ A. bit c A && r A B))
-
-  pub image-none : Upto imageUpto 0 0
-  unfolding imageUpto any
-  image-none = record { most = omega arith; is = sym (mask-none kinds) }
-
-  pub image-more : {n found more next : ℕ} → Upto imageUpto n found → n < kinds → more ≡ mask kinds (r n) → next ≡ cond (bit c n) (bitOr more found) found
-      → Upto imageUpto (n + 1) next
-  unfolding imageUpto any
-  image-more {n} u l q e = record { most = omega arith; is = e ∙ simp (add-one, u .is, q) (go (bit c n)) }
-    where
-      go : (t : Bool) → cond t (bitOr (mask kinds (r n)) (imageUpto n)) (imageUpto n) ≡ mask kinds (λ B. (t && r n B) || any n (λ A. bit c A && r A B))
-      go true = mask-or kinds (r n) (λ B. any n (λ A. bit c A && r A B))
-      go false = refl
-
-  pub image-all : {n found : ℕ} → Upto imageUpto n found → kinds ≤ n → found ≡ image r c
-  unfolding imageUpto image
-  image-all u l = upto-all imageUpto u l
-
   -- the kinds that one to k steps lead to
   pub rounds : ℕ → ℕ
   rounds k = image (within k kinds r) c
@@ -98,35 +106,32 @@ module _ (r : Relation) (c : ℕ) where
       }
 
   module _ (k B : ℕ) where
-    -- some u that one to k steps lead to from a kind of c is one step before B
-    abbrev later : ℕ → Bool
-    later u = bit (rounds k) u && r u B
+    -- the kinds of c, and those that one to k steps lead to
+    abbrev reached : ℕ
+    reached = bitOr c (rounds k)
 
     -- one step, or one more than k at most, lead from A to B
     abbrev more-rounds : ℕ → Bool
     more-rounds A = r A B || any kinds (λ u. r u B && within k kinds r A u)
 
-    first-or-later : any kinds (λ A. bit c A && r A B) || any kinds later ≡ any kinds (λ A. bit c A && more-rounds A)
+    one-more : any kinds (λ A. bit reached A && r A B) ≡ any kinds (λ A. bit c A && more-rounds A)
     unfolding rounds
-    first-or-later =
+    one-more =
         same _ _
-        (or-out (any kinds (λ A. bit c A && r A B)) (any kinds later)
-        (both-out kinds (bit c) (λ A. r A B) (λ A a p e. both-in kinds (bit c) more-rounds A a p (or-left (r A B) _ e)))
-        (both-out kinds (bit (rounds k)) (λ u. r u B) (λ u l p e.
-        image-out (within k kinds r) c u (λ A a q w.
-        both-in kinds (bit c) more-rounds A a q (or-right (r A B) _ (both-in kinds (λ u. r u B) (within k kinds r A) u l e w))) p)))
-        (both-out kinds (bit c) more-rounds (λ A a p. or-out (r A B) _
-        (λ e. or-left _ (any kinds later) (both-in kinds (bit c) (λ A. r A B) A a p e))
-        (both-out kinds (λ u. r u B) (within k kinds r A) (λ u l e w.
-        or-right (any kinds (λ A. bit c A && r A B)) _ (both-in kinds (bit (rounds k)) (λ u. r u B) u l (image-in (within k kinds r) c A u a l p w) e)))))
+        (both-out kinds (bit reached) (λ A. r A B) (λ A a p e. or-out (bit c A) (bit (rounds k) A)
+        (λ q. both-in kinds (bit c) more-rounds A a q (or-left (r A B) _ e))
+        (image-out (within k kinds r) c A (λ v l q w.
+        both-in kinds (bit c) more-rounds v l q (or-right (r v B) _ (both-in kinds (λ u. r u B) (within k kinds r v) A a e w))))
+        (sym (bit-or A c (rounds k)) ∙ p)))
+        (both-out kinds (bit c) more-rounds (λ A a p. or-out (r A B) _ (last A a (or-left (bit c A) _ p))
+        (both-out kinds (λ u. r u B) (within k kinds r A) (λ u l e w. last u l (or-right (bit c u) _ (image-in (within k kinds r) c A u a l p w)) e))))
+      where
+        last : (u : ℕ) → u < kinds → bit c u || bit (rounds k) u ≡ true → r u B ≡ true → any kinds (λ A. bit reached A && r A B) ≡ true
+        last u l h = both-in kinds (bit reached) (λ A. r A B) u l (bit-or u c (rounds k) ∙ h)
 
-  pub rounds-more : {k reached first more : ℕ} → Upto rounds k reached → k < kinds → first ≡ image r c → more ≡ image r reached → Upto rounds (k + 1) (bitOr first more)
+  pub rounds-more : {k reached next : ℕ} → Upto rounds k reached → k < kinds → next ≡ image r (bitOr c reached) → Upto rounds (k + 1) next
   unfolding rounds image within
-  rounds-more {k} u l p q =
-      record {
-        most = omega arith;
-        is = simp (p, q, u .is, add-one) (mask-or kinds _ _ ∙ mask-cong kinds _ _ (λ B b. first-or-later k B));
-      }
+  rounds-more {k} u l e = record { most = omega arith; is = e ∙ simp (u .is, add-one) (mask-cong kinds _ _ (λ B b. one-more k B)) }
 
 pub rounds-all : (g : Graph) (c : ℕ) {k reached : ℕ} → Upto (rounds (childKind g) c) k reached → kinds ≤ k → reached ≡ image (reachable g) c
 unfolding rounds reachable closure
@@ -141,7 +146,7 @@ module _ (g : Graph) (long : length (g .children) ≡ types) where
   from-kind : (A B : ℕ) → reachable g A B ≡ true → A < kinds
   unfolding reachable
   from-kind A B h =
-      lt-of-not-le (λ l. begins (λ u e. never (no-such-type g A u refl (λ d. omega arith) (omega arith) long ∙ e)) (closure-sound kinds (childKind g) h))
+      lt-of-not-le (λ l. begins (λ u e. never (no-such-type g A u (λ d. omega arith) (omega arith) long ∙ e)) (closure-sound kinds (childKind g) h))
 
   -- what is reachable from one kind
   image-single : (v : ℕ) → image (reachable g) (mask kinds (λ A. eqb A v)) ≡ mask kinds (reachable g v)
@@ -160,4 +165,4 @@ module _ (g : Graph) (long : length (g .children) ≡ types) where
   unfolding live
   live-all i p q e = rw (e, q, p, i, image-single (g .root), mask-or kinds, mask-or kinds)
 
-pub ruleset laws = (single-none, single-one, document-children, type-children, joined, not-joined, image-none, image-more, image-all, rounds-none, rounds-more, rounds-all, live-all, needs)
+pub ruleset laws = (single-none, single-one, document-children, type-children, row-chosen, none-chosen, image-none, image-more, image-all, rounds-none, rounds-more, rounds-all, live-all, needs)

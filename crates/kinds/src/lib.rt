@@ -1,8 +1,7 @@
-// Sets of kinds as masks, and the edges of a graph.
+// Kinds: the edges between them, and sets of them as masks.
 ghost use mathlib.Core.Path.{_≡_};
 ghost use Prim.Native.Nat.{_<_};
 ghost use mathlib.Core.Bool.{cond};
-ghost use lib.Bits.{bitOr};
 ghost use lib.Dec.{eqb};
 ghost use Rattle.meaning.specs.Limits.{kinds};
 ghost use Rattle.meaning.specs.Sets.{bit, mask};
@@ -17,33 +16,20 @@ const DOCUMENT: usize = 16;
 // Kinds are numbered below this.
 const KINDS: usize = 17;
 
-// The casts are functions of their own: whoever calls one has nothing to prove of a value that fits.
-fn place(kind: u8) -> usize
-    ensures { λ r. ⌜ r ≡ kind ⌝ }
-{
-    kind as usize
-}
-
-fn wide(mask: u16) -> u32
-    ensures { λ r. ⌜ r ≡ mask ⌝ }
-{
-    mask as u32
-}
-
 // Whether the kind is in the set.
-fn has(mask: u32, kind: usize) -> bool
+pub fn has(set: u32, kind: usize) -> bool
     requires { ⌜ kind < 32 ⌝ }
-    ensures { λ r. ⌜ r ≡ bit mask kind ⌝ }
+    ensures { λ r. ⌜ r ≡ bit set kind ⌝ }
 {
-    (mask >> kind) % 2 == 1
+    (set >> kind) % 2 == 1
 }
 
 // Whether b is a child kind of a. Numbers that are no kinds have no edge.
 pub fn is_child(g: Graph, a: u8, b: u8) -> bool
     ensures { λ r. ⌜ r ≡ childKind g a b ⌝ }
 {
-    let from = place(a);
-    let to = place(b);
+    let from = a as usize;
+    let to = b as usize;
     if from == DOCUMENT {
         return b == g.root;
     }
@@ -53,11 +39,11 @@ pub fn is_child(g: Graph, a: u8, b: u8) -> bool
     if TYPES <= to {
         return false;
     }
-    has(wide(g.children[from]), to)
+    has(numbers::u16_to_u32(g.children[from]), to)
 }
 
 // The set of one kind; of none, where the number is no kind.
-fn single(kind: usize) -> u32
+pub fn single(kind: usize) -> u32
     ensures { λ r. ⌜ r ≡ mask kinds (λ A. eqb A kind) ⌝ }
 {
     if KINDS <= kind {
@@ -67,22 +53,22 @@ fn single(kind: usize) -> u32
 }
 
 // The child kinds of one kind.
-fn child_kinds(g: Graph, kind: usize) -> u32
+pub fn child_kinds(g: Graph, kind: usize) -> u32
     requires { ⌜ kind < kinds ⌝ }
     ensures { λ r. ⌜ r ≡ mask kinds (childKind g kind) ⌝ }
 {
     if kind == DOCUMENT {
-        return single(place(g.root));
+        return single(numbers::u8_to_usize(g.root));
     }
-    wide(g.children[kind])
+    numbers::u16_to_u32(g.children[kind])
 }
 
-// Both sets, or the second alone where c lacks the kind.
-fn joined_if(c: u32, kind: usize, more: u32, found: u32) -> u32
-    requires { ⌜ kind < kinds ⌝ }
-    ensures { λ r. ⌜ r ≡ cond (bit c kind) (bitOr more found) found ⌝ }
+// The row of a kind, where the set has the kind; else no kinds.
+pub fn chosen(set: u32, kind: usize, row: u32) -> u32
+    requires { ⌜ kind < 32 ⌝ }
+    ensures { λ r. ⌜ r ≡ cond (bit set kind) row 0 ⌝ }
 {
-    if has(c, kind) { more | found } else { found }
+    if has(set, kind) { row } else { 0 }
 }
 
 // The child kinds of the kinds in c.
@@ -92,22 +78,21 @@ pub fn children(g: Graph, c: u32) -> u32
     let mut found: u32 = 0;
     let mut kind: usize = 0;
     while kind < KINDS {
-        found = joined_if(c, kind, child_kinds(g, kind), found);
+        found = chosen(c, kind, child_kinds(g, kind)) | found;
         kind += 1;
     }
     found
 }
 
-// The kinds reachable from those in c by one or more edges: each round adds the children of what the last one found,
-// and as many rounds as there are kinds are enough.
+// The kinds reachable from those in c by one or more edges: each round adds the children of what the last one found, and
+// as many rounds as there are kinds are enough.
 pub fn reachable(g: Graph, c: u32) -> u32
     ensures { λ r. ⌜ r ≡ image (reachable g) c ⌝ }
 {
-    let first = children(g, c);
     let mut reached: u32 = 0;
     let mut round: usize = 0;
     while round < KINDS {
-        reached = first | children(g, reached);
+        reached = children(g, c | reached);
         round += 1;
     }
     reached
@@ -117,6 +102,6 @@ pub fn reachable(g: Graph, c: u32) -> u32
 pub fn live(g: Graph) -> u32
     ensures { λ r. ⌜ r ≡ mask kinds (live g) ⌝ }
 {
-    let root = single(place(g.root));
+    let root = single(numbers::u8_to_usize(g.root));
     single(DOCUMENT) | (root | reachable(g, root))
 }

@@ -15,9 +15,9 @@ use Rattle.fields.specs.Read.{got, refused}
 use Rattle.fields.specs.Outcomes.{valueOr}
 use Rattle.fields.proofs.Outcomes.{turned, held}
 use Rattle.program.specs.declared.ProgramRead.{ProgramRead}
-use Rattle.program.specs.Rel.{programFile}
+use Rattle.rel.specs.Rel.{programFile}
 use Rattle.program.specs.Answers.{programRead}
-use Rattle.program.proofs.File.{program-read}
+use Rattle.rel.proofs.File.{program-read}
 
 module _ (k : ℕ) (rel : List ℕ) {y : ProgramRead} (p : y ≡ programRead (programFile k rel 0)) where
   pub program-turned : {r : Refusal} → y .outcome ≡ Refused r → programFile k rel 0 ≡ refused r

@@ -1,33 +1,22 @@
 -- What is handed on of a reading of the REL file; after it, what the inner functions answer and ask for.
 use Prim.Native.Nat.{ℕ, _+_, _<_, _≤_}
 use mathlib.Core.List.{List, []}
-use lib.ListN.{set}
+use lib.ListN.{length, set}
 use Rattle.meaning.specs.declared.Operation.{Operation}
-use Rattle.meaning.specs.declared.Operation.the-variants.{Itself}
 use Rattle.meaning.specs.declared.Program.{Program}
+use Rattle.meaning.specs.Limits.{words}
 use Rattle.meaning.specs.Records.{programOf}
 use Rattle.fields.specs.declared.Field.{Field}
-use Rattle.fields.specs.declared.Field.the-variants.{Got, Refused}
-use Rattle.fields.specs.Read.{Read, got, refused, readOf}
+use Rattle.fields.specs.Read.{Read, readOf}
 use Rattle.fields.specs.Outcomes.{outcomeOf, valueOr}
-use Rattle.program.specs.declared.Layout.{Layout}
-use Rattle.program.specs.declared.Layout.the-variants.{Zeros, Single, Pair, Number, Mask}
+use Rattle.rel.specs.declared.Layout.{Layout}
+use Rattle.rel.specs.declared.Layout.the-variants.{Zeros, Single, Pair, Number, Mask}
+use Rattle.rel.specs.Rel.{layouts, layoutOf}
 use Rattle.program.specs.declared.ProgramRead.{ProgramRead}
-use Rattle.program.specs.declared.StepRead.{StepRead}
-use Rattle.program.specs.Rel.{layoutOf}
 
 -- a refused program has no steps
 abbrev pub programRead : Read (List Operation) → ProgramRead
 programRead e = record { outcome = outcomeOf e; program = programOf (valueOr [] e) }
-
--- the operation of one step; SELF stands beside a refusal
-abbrev pub stepAnswer : Read Operation → StepRead
-stepAnswer (got o at) = record { passed = Got 0 (record { at = at }); operation = o }
-stepAnswer (refused r) = record { passed = Refused r; operation = Itself }
-
--- a field turned the step away
-abbrev pub unreadBy : Field → StepRead
-unreadBy f = record { passed = f; operation = Itself }
 
 -- a field turned the file away
 abbrev pub refusedBy : Field → ProgramRead
@@ -42,12 +31,12 @@ abbrev pub room : Layout → ℕ
 room Zeros = 256
 room Single = 256
 room Pair = 256
-room Number = 65536
-room Mask = 65536
+room Number = words
+room Mask = words
 
 -- an operation's code, and x and y as its layout may have them
 pub record Coded (code x y : ℕ) : Type 0 where
   pub first : 1 ≤ code
-  pub last : code ≤ 9
+  pub last : code ≤ length layouts
   pub x-room : x < room (layoutOf code)
   pub y-room : y < 256

@@ -1,2 +1,1 @@
-pub mod Rel
 pub mod Answers

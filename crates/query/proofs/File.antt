@@ -8,7 +8,7 @@ use Rattle.meaning.specs.Limits.{queryLimit}
 use Rattle.meaning.specs.Queries.{XPath, queryNodes, LegalPath}
 use Rattle.fields.specs.Read.{Read, got, header, _>>_}
 use Rattle.fields.specs.Write.{Bytes, headerOf}
-use Rattle.fields.proofs.Formats.{Takes, takes-bind, takes-header, takes-file, accepts-weaken, reads-bind, reads-header, reads-file, refused-out}
+use Rattle.fields.proofs.Formats.{Takes, takes-bind, takes-first, takes-file, accepts-weaken, reads-bind, reads-header, reads-file, refused-out}
 use Rattle.query.specs.Qry.{path, part, queryFile, queryBytes}
 use Rattle.query.proofs.Parts.{Counted, counted, ended, part-right, query-counted}
 use Rattle.query.proofs.Written.{path-written}
@@ -22,11 +22,11 @@ counted-out ended i = refused-out i
 pub query-counts : (k : ℕ) (s : List ℕ) {p : XPath} {left n : ℕ} → queryFile k s 0 ≡ got (p, left) n → (left + queryNodes p ≡ queryLimit) × (1 ≤ queryNodes p)
 query-counts k s h = let (some, all) = counted-out (query-counted k s) h in (all, omega arith)
 
-takes-query : (k : ℕ) → Takes (header 0x51 0x52 0x59 >> part k queryLimit path queryLimit) (λ p. queryBytes (p .0)) (λ p. LegalPath k (p .0))
+takes-query : (k : ℕ) → Takes (header 0x51 0x52 0x59 1 >> part k queryLimit path queryLimit) (λ p. queryBytes (p .0)) (λ p. LegalPath k (p .0))
 unfolding queryBytes
 takes-query k =
-    takes-bind (takes-header 0x51 0x52 0x59) λ _ _.
-    accepts-weaken (part-right k queryLimit path .accepts queryLimit) λ p b h. (ap (λ l. headerOf 0x51 0x52 0x59 ++ l) (h .0), h .1)
+    takes-bind (takes-first 0x51 0x52 0x59) λ _ _.
+    accepts-weaken (part-right k queryLimit path .accepts queryLimit) λ p b h. (ap (λ l. headerOf 0x51 0x52 0x59 1 ++ l) (h .0), h .1)
 
 pub query-read : (k : ℕ) {s : List ℕ} → Bytes s → {p : XPath} {left n : ℕ} → queryFile k s 0 ≡ got (p, left) n
     → LegalPath k p × (queryNodes p + left ≡ queryLimit) × (s ≡ queryBytes p)
@@ -42,5 +42,5 @@ unfolding queryFile queryBytes queryNodes
 query-written k p legal few =
     reads-file
     (reads-bind (λ _. part k queryLimit path queryLimit)
-    (reads-header 0x51 0x52 0x59)
+    (reads-header 0x51 0x52 0x59 1 1 (omega arith) (omega arith))
     (path-written k p legal .reads-back queryLimit queryLimit (queryLimit - queryNodes p) (omega arith) (omega arith)))

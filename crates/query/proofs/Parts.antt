@@ -8,14 +8,14 @@ use native.Mathlib.Omega.{arith}
 use lib.Dec.{ltb, eqb}
 use lib.ListN.{length}
 use borrow.Author.Tests.{ltb-true, eqb-true}
-use Rattle.meaning.specs.declared.Reason.the-variants.{Bound, Code, Kind}
+use Rattle.meaning.specs.declared.Reason.the-variants.{Bound, Kind}
 use Rattle.meaning.specs.declared.Refusal.{Refusal}
 use Rattle.meaning.specs.Limits.{queryLimit}
 use Rattle.meaning.specs.Queries.{pathCount, qualifierCount, LegalPath, LegalQualifier}
 use Rattle.fields.specs.Read.{Read, Reader, _>>=_, got, refused, bind, pick, header, end}
 use Rattle.fields.specs.Write.{byteOf}
-use Rattle.fields.proofs.Formats.{Accepts, accepts-bind, takes-bind, accepts-give, accepts-refuse, takes-judge, takes-byte, takes-word, takes-weaken}
-use Rattle.query.specs.Qry.{Sort, path, qualifier, Tree, PartReader, Follows, leaf, field, one, two, unknown, typeBelow, codes, following, nodeCode, part, queryFile, pathBytes, qualifierBytes}
+use Rattle.fields.proofs.Formats.{Accepts, Takes, accepts-bind, takes-bind, accepts-give, accepts-refuse, accepts-pick, takes-judged, takes-byte, takes-word, takes-weaken, refused-out}
+use Rattle.query.specs.Qry.{Sort, path, qualifier, Tree, PartReader, Follows, leaf, field, one, two, unknown, codes, following, nodeCode, here, part, queryFile, pathBytes, qualifierBytes}
 
 -- how many nodes a part has, its bytes, and which are legal
 abbrev pub count : (σ : Sort) → Tree σ → ℕ
@@ -70,15 +70,11 @@ row {k} {σ} {c} w {r} {t} R T = go (eqb c w) refl
     go true e = rw (eqb-true c w e) R
     go false e = T
 
-takes-type : (k : ℕ) → Accepts (typeBelow k) (λ t b. (b ≡ byteOf t) × (t < k))
-unfolding typeBelow
-takes-type k = takes-bind takes-byte λ t _. takes-bind (takes-judge (ltb t k) Kind) λ _ l. accepts-give (refl, ltb-true t k l)
-
 pub rows : (k : ℕ) (σ : Sort) (c : ℕ) → Row k σ c (codes k σ c)
 unfolding pathCount qualifierCount pathBytes qualifierBytes LegalPath LegalQualifier
 rows k path c =
     row 0x01 (leaf-row refl refl tt)
-    (row 0x02 (field-row (λ v. refl) (takes-weaken (takes-type k) λ t l. (refl, l)))
+    (row 0x02 (field-row (λ v. refl) (takes-weaken (takes-judged _ Kind takes-byte) λ t l. (refl, ltb-true t k (l .1))))
     (row 0x03 (leaf-row refl refl tt)
     (row 0x04 (two-row λ a b. (refl, refl, λ h i. (h, i)))
     (row 0x05 (two-row λ a b. (refl, refl, λ h i. (h, i)))
@@ -94,29 +90,38 @@ rows k qualifier c =
     no-row))))
 
 following-right : {k : ℕ} {σ : Sort} {c : ℕ} {parts : (τ : Sort) → PartReader τ} {r : Follows σ}
-    → ((τ : Sort) → Right k τ [] (parts τ)) → Row k σ c r → Right k σ (byteOf c) (following parts r)
-following-right P (leaf-row {t} h e l) = record { counts = λ n s at. counted {p = (t, n)} (omega arith); accepts = λ n. accepts-give (e, l) }
-following-right P (field-row {m} {f} h A) = record {
+    → ((τ : Sort) → Right k τ [] (parts τ)) → (place : ℕ) → Row k σ c r → Right k σ (byteOf c) (following parts place r)
+following-right P place (leaf-row {t} h e l) = record { counts = λ n s at. counted {p = (t, n)} (omega arith); accepts = λ n. accepts-give (e, l) }
+following-right P place (field-row {m} {f} h A) = record {
   counts = λ n s at. after-field (m s at) _ λ v i. counted {p = (f v, n)} (omega (arith, h v));
   accepts = λ n. accepts-bind A λ v b e. accepts-give (rw (append-nil b) (e .0), e .1);
 }
-following-right P (one-row {τ} {f} h) = record {
+following-right P place (one-row {τ} {f} h) = record {
   counts = λ n s at. after-part _ (P τ .counts n s at) λ a i e. counted {p = (f (a .0), a .1)} (omega (arith, h (a .0) .0));
   accepts = λ n. accepts-bind (P τ .accepts n) λ a b e. let (_, same, legal) = h (a .0) in accepts-give (rw (append-nil b, e .0) same, legal (e .1));
 }
-following-right P (two-row {τ} {υ} {f} h) = record {
+following-right P place (two-row {τ} {υ} {f} h) = record {
   counts = λ n s at. after-part _ (P τ .counts n s at) λ a i d. after-part _ (P υ .counts (a .1) s i) λ b j e.
       counted {p = (f (a .0) (b .0), b .1)} (omega (arith, h (a .0) (b .0) .0));
   accepts = λ n. accepts-bind (P τ .accepts n) λ a u d. accepts-bind (P υ .accepts (a .1)) λ b v e.
       let (_, same, legal) = h (a .0) (b .0) in accepts-give (rw (append-nil v, d .0, e .0) same, legal (d .1) (e .1));
 }
-following-right P no-row = record { counts = λ n s at. ended; accepts = λ n. accepts-refuse Code }
+following-right P place no-row = record { counts = λ n s at. ended; accepts = λ n. record { accepts = λ bs le h. refused-out h } }
 
-node-right : {k : ℕ} {σ : Sort} (m : ℕ → PartReader σ) → ((c : ℕ) → Right k σ (byteOf c) (m c)) → Right k σ [] (λ n. nodeCode n >>= λ c. m c (n - 1))
+takes-code : (n : ℕ) → Takes (nodeCode n) byteOf (λ c. c < 256)
+unfolding nodeCode
+takes-code n = accepts-pick (ltb 0 n) (λ _. takes-byte) (λ _. accepts-refuse Bound)
+
+-- the place is known before anything is read
+accepts-here : {A : Type 0} {f : ℕ → Reader A} {Q : A → List ℕ → Type 0} → ((place : ℕ) → Accepts (f place) Q) → Accepts (here >>= f) Q
+accepts-here p = record { accepts = λ {at = at} bs le h. p at .accepts bs le h }
+
+node-right : {k : ℕ} {σ : Sort} (m : ℕ → ℕ → PartReader σ) → ((place c : ℕ) → Right k σ (byteOf c) (m place c))
+    → Right k σ [] (λ n. here >>= λ place. nodeCode n >>= λ c. m place c (n - 1))
 unfolding nodeCode
 node-right m R = record {
-  counts = λ n s at. elim n [ zero ↦ ended | suc n ↦ after-field (nodeCode (suc n) s at) _ λ c i. rw (one-taken n) (R c .counts (suc n - 1) s i) ];
-  accepts = λ n. takes-bind (takes-bind (takes-judge (ltb 0 n) Bound) λ _ _. takes-byte) λ c _. R c .accepts (n - 1);
+  counts = λ n s at. elim n [ zero ↦ ended | suc n ↦ after-field (nodeCode (suc n) s at) _ λ c i. rw (one-taken n) (R at c .counts (suc n - 1) s i) ];
+  accepts = λ n. accepts-here λ place. takes-bind (takes-code n) λ c _. R place c .accepts (n - 1);
 }
   where
     one-taken : (n : ℕ) → suc n + 0 ≡ suc n - 1 + 1
@@ -125,7 +130,7 @@ node-right m R = record {
 pub part-right : (k f : ℕ) (σ : Sort) → Right k σ [] (part k f σ)
 unfolding part
 part-right k zero σ = record { counts = λ n s at. ended; accepts = λ n. accepts-refuse Bound }
-part-right k (suc f) σ = node-right _ λ c. following-right (part-right k f) (rows k σ c)
+part-right k (suc f) σ = node-right _ λ place c. following-right (part-right k f) place (rows k σ c)
 
 pub part-counted : (k f : ℕ) (σ : Sort) (n : ℕ) (s : List ℕ) (at : ℕ) → Counted σ n (part k f σ n s at)
 part-counted k f σ n s at = rw add-zero at (part-right k f σ .counts n s at)
@@ -133,5 +138,5 @@ part-counted k f σ n s at = rw add-zero at (part-right k f σ .counts n s at)
 pub query-counted : (k : ℕ) (s : List ℕ) → Counted path queryLimit (queryFile k s 0)
 unfolding queryFile
 query-counted k s =
-    after-part _ (after-field (header 0x51 0x52 0x59 s 0) _ λ _ i. part-counted k queryLimit path queryLimit s i) λ p j h.
+    after-part _ (after-field (header 0x51 0x52 0x59 1 s 0) _ λ _ i. part-counted k queryLimit path queryLimit s i) λ p j h.
     after-field (end s j) _ λ _ e. counted {p = p} h

@@ -5,7 +5,7 @@ use lib.Dec.{eqb, ltb}
 use Rattle.meaning.specs.declared.Reason.the-variants.{Bound, Code, Kind}
 use Rattle.meaning.specs.Limits.{queryLimit}
 use Rattle.meaning.specs.Queries.{XPath, Qualifier, self, child, anyChild, slash, slashes, union, filter, reached, textIs, isNot, both, either}
-use Rattle.fields.specs.Read.{Reader, _>>=_, _>>_, give, refuse, judge, pick, byte, word, header, end}
+use Rattle.fields.specs.Read.{Reader, _>>=_, _>>_, got, give, refuse, pick, byte, word, byteBelow, header, ended}
 use Rattle.fields.specs.Write.{byteOf, wordOf, headerOf}
 
 -- a part of a query is a path or a qualifier
@@ -28,18 +28,11 @@ pub data Follows (σ : Sort) : Type 0 where
   two : (τ υ : Sort) → (Tree τ → Tree υ → Tree σ) → Follows σ
   unknown : Follows σ
 
--- a type
-unfoldable pub typeBelow : ℕ → Reader ℕ
-typeBelow k = do
-  t ← byte
-  judge (ltb t k) Kind
-  give t
-
 -- the table of codes, where there are k types
 abbrev pub codes : ℕ → (σ : Sort) → ℕ → Follows σ
 codes k path c =
     pick (eqb c 0x01) (leaf self)
-    (pick (eqb c 0x02) (field (typeBelow k) child)
+    (pick (eqb c 0x02) (field (byteBelow k Kind) child)
     (pick (eqb c 0x03) (leaf anyChild)
     (pick (eqb c 0x04) (two path path slash)
     (pick (eqb c 0x05) (two path path slashes)
@@ -54,40 +47,40 @@ codes k qualifier c =
     (pick (eqb c 0x15) (two qualifier qualifier either)
     unknown))))
 
--- reads what follows, where part reads the parts inside
-abbrev pub following : {σ : Sort} → ((τ : Sort) → PartReader τ) → Follows σ → PartReader σ
-following part (leaf t) n = give (t, n)
-following part (field m f) n = do
+-- reads what follows the code at a place, where part reads the parts inside
+abbrev pub following : {σ : Sort} → ((τ : Sort) → PartReader τ) → ℕ → Follows σ → PartReader σ
+following part place (leaf t) n = give (t, n)
+following part place (field m f) n = do
   v ← m
   give (f v, n)
-following part (one τ f) n = do
+following part place (one τ f) n = do
   a ← part τ n
   give (f (a .0), a .1)
-following part (two τ υ f) n = do
+following part place (two τ υ f) n = do
   a ← part τ n
   b ← part υ (a .1)
   give (f (a .0) (b .0), b .1)
-following part unknown n = refuse Code
+following part place unknown n = λ s _. refuse Code s place
 
 -- the code of a node: a node more than is allowed is refused before its code is looked at
 unfoldable pub nodeCode : ℕ → Reader ℕ
-nodeCode n = do
-  judge (ltb 0 n) Bound
-  byte
+nodeCode n = pick (ltb 0 n) byte (refuse Bound)
+
+-- the place that reading has come to
+abbrev pub here : Reader ℕ
+here s at = got at at
 
 -- a part, at most as deep as the second number says, which is never less than the nodes allowed
 unfoldable pub part : ℕ → ℕ → (σ : Sort) → PartReader σ
 part k zero σ n = refuse Bound
 part k (suc f) σ n = do
+  place ← here
   c ← nodeCode n
-  following (λ τ m. part k f τ m) (codes k σ c) (n - 1)
+  following (λ τ m. part k f τ m) place (codes k σ c) (n - 1)
 
 -- the query of a file, and how many nodes it leaves of those allowed
 unfoldable pub queryFile : ℕ → Reader (XPath × ℕ)
-queryFile k = do
-  p ← header 0x51 0x52 0x59 >> part k queryLimit path queryLimit
-  end
-  give p
+queryFile k = ended (header 0x51 0x52 0x59 1 >> part k queryLimit path queryLimit)
 
 unfoldable mutual
   pub pathBytes : XPath → List ℕ
@@ -108,4 +101,4 @@ unfoldable mutual
 
 -- the file of a query
 unfoldable pub queryBytes : XPath → List ℕ
-queryBytes p = headerOf 0x51 0x52 0x59 ++ pathBytes p
+queryBytes p = headerOf 0x51 0x52 0x59 1 ++ pathBytes p

@@ -2,13 +2,13 @@
 // each reader answers how many nodes it leaves of those still allowed, and where reading goes on.
 ghost use mathlib.Core.Path.{_≡_};
 ghost use Rattle.fields.specs.Read.{readOf};
-ghost use Rattle.query.specs.Qry.{path, qualifier, nodeCode, typeBelow, queryFile};
+ghost use Rattle.query.specs.Qry.{path, qualifier, nodeCode, queryFile};
 ghost use Rattle.query.specs.Answers.{leftOf, PartRead, Then, leaving, queryRead};
 use fields::Cursor;
 use fields::Field;
-use fields::refuse;
 use meaning::Outcome;
 use meaning::Reason;
+use numbers::u16_to_u8;
 
 // The nodes that a query may have.
 const LIMIT: u16 = 24;
@@ -24,23 +24,9 @@ fn node_code(s: &[u8], c: Cursor, left: u16) -> Field
     ensures { λ r. ⌜ readOf r ≡ nodeCode left (now (s .entry)) (c .at) ⌝ }
 {
     if left == 0 {
-        return refuse(Reason::Bound);
+        return c.refuse(Reason::Bound);
     }
     c.byte(s)
-}
-
-fn type_below(s: &[u8], c: Cursor, k: u8) -> Field
-    ensures { λ r. ⌜ readOf r ≡ typeBelow k (now (s .entry)) (c .at) ⌝ }
-{
-    let named = c.byte(s);
-    let Field::Got(t, _) = named else {
-        return named;
-    };
-    if t < k as u16 {
-        named
-    } else {
-        refuse(Reason::Kind)
-    }
 }
 
 // The answer behind a field whose value is not kept: left nodes are still allowed.
@@ -64,13 +50,13 @@ fn path(s: &[u8], c: Cursor, left: u16, k: u8) -> Field
     let rest = left - 1;
     match code {
         0x01 => Field::Got(rest, after),
-        0x02 => leaving(rest, type_below(s, after, k)),
+        0x02 => leaving(rest, after.byte_below(s, k, Reason::Kind)),
         0x03 => Field::Got(rest, after),
         0x04 => then_path(s, path(s, after, rest, k), k),
         0x05 => then_path(s, path(s, after, rest, k), k),
         0x06 => then_path(s, path(s, after, rest, k), k),
         0x07 => then_qualifier(s, path(s, after, rest, k), k),
-        _ => refuse(Reason::Code),
+        _ => c.refuse(Reason::Code),
     }
 }
 
@@ -88,7 +74,7 @@ fn qualifier(s: &[u8], c: Cursor, left: u16, k: u8) -> Field
         0x13 => qualifier(s, after, rest, k),
         0x14 => then_qualifier(s, qualifier(s, after, rest, k), k),
         0x15 => then_qualifier(s, qualifier(s, after, rest, k), k),
-        _ => refuse(Reason::Code),
+        _ => c.refuse(Reason::Code),
     }
 }
 
@@ -114,7 +100,7 @@ fn then_qualifier(s: &[u8], first: Field, k: u8) -> Field
 fn whole_file(s: &[u8], k: u8) -> Field
     ensures { λ r. ⌜ readOf r ≡ leftOf (queryFile k (now (s .entry)) 0) ⌝ }
 {
-    let headed = Cursor::start().header(s, b'Q', b'R', b'Y');
+    let headed = Cursor::start().header(s, b'Q', b'R', b'Y', 1);
     let Field::Got(_, body) = headed else {
         return headed;
     };
@@ -132,7 +118,7 @@ pub fn read(s: &[u8], k: u8) -> QueryRead
     match found {
         Field::Got(left, _) => QueryRead {
             outcome: Outcome::Accepted,
-            nodes: (LIMIT - left) as u8,
+            nodes: u16_to_u8(LIMIT - left),
         },
         Field::Refused(refusal) => QueryRead {
             outcome: Outcome::Refused(refusal),

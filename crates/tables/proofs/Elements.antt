@@ -5,143 +5,116 @@ use mathlib.Core.Bool.{Bool, true, false, not, _&&_, _||_}
 use mathlib.Core.List.{List, []}
 use native.Mathlib.Omega.{arith}
 use native.Mathlib.Numerals.{add-one}
-use lib.Dec.{eqb}
-use lib.ListN.{length, getD, length-take, length-map}
+use lib.Dec.{eqb, ltb}
+use lib.ListN.{length}
 use borrow.Author.Needs.{needs}
 use borrow.Author.Tests.{lt-ltb, le-ltb, le-leb, eq-eqb, ne-eqb, eqb-true, not-true, not-false}
 use Rattle.meaning.specs.declared.Graph.{Graph}
 use Rattle.meaning.specs.declared.Element.{Element}
-use Rattle.meaning.specs.declared.Document.{Document}
 use Rattle.meaning.specs.declared.Reason.the-variants.{Number, Edge}
 use Rattle.meaning.specs.declared.Refusal.{Refusal}
 use Rattle.meaning.specs.Graphs.{childKind}
-use Rattle.meaning.specs.Documents.{isElement, above, below, documentNode, node, view, parentRule, edgeRule}
-use Rattle.meaning.specs.Records.{elementsIn}
-use Rattle.meaning.proofs.Tests.{and-in, and-left, and-right, fails}
-use Rattle.meaning.proofs.Sets.{below-suc}
-use Rattle.fields.specs.Kept.{elementIn, documentIn}
-use Rattle.fields.specs.Read.{Read, got, judge, readOf, passed}
+use Rattle.meaning.specs.Documents.{isElement, above, below, node, view, parentRule, edgeRule}
+use Rattle.meaning.proofs.Tests.{same, and-in, fails}
+use Rattle.fields.specs.Read.{Read, got, readOf, passed}
 use Rattle.fields.specs.declared.Cursor.{Cursor}
 use Rattle.fields.specs.declared.Field.{Field}
 use Rattle.fields.specs.declared.Field.the-variants.{Got, Refused}
 use Rattle.fields.proofs.Laws.{taken-passed, handed-passed}
+use Rattle.elements.specs.Kept.{keptIn}
+use Rattle.elements.proofs.Kept.{held-long}
 use Rattle.fields.proofs.Formats.{bind-out, judge-out}
-use Rattle.tables.specs.Edg.{elementJudged, elementsJudged}
-use Rattle.tables.specs.Kept.{ones, Climbable}
-use Rattle.tables.proofs.Lists.{take-keeps}
+use Rattle.edg.specs.Edg.{ones, judgeHere, elementJudged, elementsJudged}
+use Rattle.edg.proofs.Numbers.{ones-out}
+use Rattle.tables.specs.Kept.{Climbable}
 
 -- each number below n came once
-module _ (ts : List ℕ) where
-  ones-out : (n : ℕ) → ones n ts ≡ true → (i : ℕ) → i < n → getD ts i 0 ≡ 1
-  unfolding ones
-  ones-out zero h i l = absurd (omega arith)
-  ones-out (suc n) h i l =
-      below-suc (λ j. getD ts j 0 ≡ 1) i (eqb-true (getD ts n 0) 1 (and-right (ones n ts) _ h)) (ones-out n (and-left (ones n ts) _ h) i) l
-
-  pub ones-none : ones 0 ts ≡ true
+module _ (f : ℕ → ℕ) where
+  pub ones-none : ones 0 f ≡ true
   unfolding ones
   ones-none = refl
 
-  pub ones-lack : (n i : ℕ) → i < n → (getD ts i 0 ≡ 1 → ⊥) → false ≡ ones n ts
-  ones-lack n i l h = sym (fails (ones n ts) (λ e. h (ones-out n e i l)))
+  pub ones-lack : (n i : ℕ) → i < n → (f i ≡ 1 → ⊥) → false ≡ ones n f
+  ones-lack n i l h = sym (fails (ones n f) (λ e. h (ones-out n f e i l)))
 
-  pub ones-more : (i : ℕ) → ones i ts ≡ true → getD ts i 0 ≡ 1 → ones (i + 1) ts ≡ true
+  pub ones-more : (i : ℕ) → ones i f ≡ true → f i ≡ 1 → ones (i + 1) f ≡ true
   unfolding ones
-  ones-more i h e = rw add-one (and-in h (eq-eqb (getD ts i 0) 1 e))
+  ones-more i h e = rw add-one (and-in h (eq-eqb (f i) 1 e))
 
-  pub ones-end : (n i : ℕ) → ones i ts ≡ true → i ≤ n → n ≤ i → true ≡ ones n ts
+  pub ones-end : (n i : ℕ) → ones i f ≡ true → i ≤ n → n ≤ i → true ≡ ones n f
   ones-end n i h l m = let e : n ≡ i = omega arith in sym (rw e h)
 
 pub ruleset ones-laws = (ones-none, ones-lack, ones-more, ones-end, needs)
 
--- there is a place for each element
-pub held-room : (kept : List ℕ) (total : ℕ) → Climbable (documentIn kept total) → total ≤ length kept
-held-room kept total climbable = let most = climbable .most in omega (arith, climbable .long, length-map kept elementIn)
+eqb-either-way : (a b : ℕ) → eqb a b ≡ eqb b a
+eqb-either-way a b = same _ _ (λ h. eq-eqb b a (sym (eqb-true a b h))) (λ h. eq-eqb a b (sym (eqb-true b a h)))
 
-module _ (d : Document) (climbable : Climbable d) where
-  listed-long : length (elementsIn d) ≡ d .count
-  unfolding elementsIn
-  listed-long = let long = climbable .long in let most = climbable .most in omega (arith, length-take (d .count) (d .elements))
-
-  listed-fall : (v : ℕ) → 0 < v → node (elementsIn d) v .parent < v
-  unfolding node elementsIn
-  listed-fall zero h = absurd (omega arith)
-  listed-fall (suc i) h = omega (arith, take-keeps (λ j e. e .parent ≤ j) (d .count) (d .elements) documentNode (climbable .falling) (λ j. omega arith) i)
-
-pub is-element : (es : List Element) (v : ℕ) → 0 < v → v ≤ length es → isElement (view es) v ≡ true
-unfolding isElement view
-is-element es v p l = and-in (le-leb v (length es) l) (lt-ltb 0 v p)
-
-and-false : (a : Bool) → a && false ≡ false
-and-false true = refl
-and-false false = refl
+-- no element is met on the way up from the document node
+none-above : (k : ℕ) (es : List Element) (v : ℕ) → ltb 0 v && (eqb v 0 || above k (view es) v 0) ≡ false
+unfolding above isElement view
+none-above k es zero = refl
+none-above zero es (suc n) = simp (lt-ltb 0 (suc n) (omega arith), ne-eqb (suc n) 0 (λ e. omega arith))
+none-above (suc k) es (suc n) = simp (lt-ltb 0 (suc n) (omega arith), ne-eqb (suc n) 0 (λ e. omega arith), le-leb 0 (length es) (omega arith))
 
 -- On the way up to v: what it comes to, b, is known from the node that was reached and the parents that may still be asked for.
-pub record Climbing (d : Document) (b : Bool) (v at : ℕ) : Type 0 where
-  pub inside : at ≤ d .count
+pub record Climbing (kept : List ℕ) (total : ℕ) (b : Bool) (v at : ℕ) : Type 0 where
+  pub inside : at ≤ total
   pub left : ℕ
   pub enough : at ≤ left
-  pub rest : b ≡ above (suc left) (view (elementsIn d)) v at
+  pub rest : b ≡ ltb 0 v && (eqb v at || above left (view (keptIn kept total)) v at)
 
-pub climb-start : (d : Document) (v w : ℕ) → Climbable d × (w ≤ d .count) → Climbing d (below (view (elementsIn d)) v w) v w
-unfolding below view
-climb-start d v w h = record { inside = h .1; left = length (elementsIn d); enough = omega (arith, listed-long d (h .0)); rest = refl }
+module _ {kept : List ℕ} {total : ℕ} (climbable : Climbable kept total) where
+  pub climb-room : total ≤ length kept
+  climb-room = climbable .room
 
-module _ {d : Document} {b : Bool} {v at : ℕ} (c : Climbing d b v at) where
-  pub climb-end : at ≤ 0 → false ≡ b
-  unfolding above isElement
-  climb-end h = sym (c .rest ∙ simp (le-ltb 0 at h, and-false))
+  pub climb-start : (v w : ℕ) → w ≤ total → Climbing kept total (ltb 0 v && (eqb v w || below (view (keptIn kept total)) v w)) v w
+  unfolding below view
+  climb-start v w h = record { inside = h; left = suc (length (keptIn kept total)); enough = omega (arith, held-long kept total climb-room); rest = refl }
 
-  module _ (climbable : Climbable d) (p : 0 < at) {x : Element} (e : x ≡ node (elementsIn d) at) where
-    step-up : b ≡ eqb (x .parent) v || above (c .left) (view (elementsIn d)) v (x .parent)
-    unfolding above view
-    step-up = let inside = c .inside in c .rest ∙ simp (is-element (elementsIn d) at p (omega (arith, listed-long d climbable)), ← e)
+  module _ {b : Bool} {v at : ℕ} (c : Climbing kept total b v at) (p : 0 < at) where
+    pub climb-found : v ≡ at → true ≡ b
+    climb-found e = sym (c .rest ∙ simp (lt-ltb 0 v (omega arith), eq-eqb v at e))
 
-    pub climb-found : x .parent ≡ v → true ≡ b
-    climb-found q = sym (step-up ∙ simp (eq-eqb (x .parent) v q))
+    module _ {x : Element} (e : x ≡ node (keptIn kept total) at) where
+      pub climb-less : x .parent < at
+      climb-less = rw e (climbable .falling at p)
 
-    pub climb-less : x .parent < at
-    climb-less = rw e (listed-fall d climbable at p)
+      pub climb-again : (v ≡ at → ⊥) → Climbing kept total b v (x .parent)
+      unfolding above isElement view
+      climb-again q =
+          let less = climb-less in
+          let inside = c .inside in
+          let enough = c .enough in
+          let one-less : c .left ≡ suc (c .left - 1) = omega arith in
+          let there : at ≤ length (keptIn kept total) = omega (arith, held-long kept total climb-room) in
+          record {
+            inside = omega arith;
+            left = c .left - 1;
+            enough = omega arith;
+            rest =
+                c .rest ∙ simp (ne-eqb v at q)
+                (ap (λ k. ltb 0 v && above k (view (keptIn kept total)) v at) one-less ∙ simp (le-leb at _ there, lt-ltb 0 at p, ← e, eqb-either-way (x .parent) v));
+          }
 
-    pub climb-again : (x .parent ≡ v → ⊥) → Climbing d b v (x .parent)
-    climb-again q =
-        let less = climb-less in
-        let inside = c .inside in
-        let enough = c .enough in
-        let one-less : c .left ≡ suc (c .left - 1) = omega arith in
-        record {
-          inside = omega arith;
-          left = c .left - 1;
-          enough = omega arith;
-          rest = step-up ∙ simp (ne-eqb (x .parent) v q) (ap (λ k. above k (view (elementsIn d)) v (x .parent)) one-less);
-        }
+pub climb-end : {kept : List ℕ} {total : ℕ} {b : Bool} {v at : ℕ} → Climbing kept total b v at → at ≤ 0 → false ≡ b
+climb-end {kept} {total} {v = v} {at} c h = let e : at ≡ 0 = omega arith in sym (c .rest ∙ rw e (none-above (c .left) (keptIn kept total) v))
 
-pub ruleset climb-laws = (held-room, climb-start, climb-end, climb-found, climb-less, climb-again, needs)
+pub ruleset climb-laws = (climb-room, climb-start, climb-end, climb-found, climb-less, climb-again, needs)
 
 -- the parent rule of element i, which is x
-module _ (d : Document) (i : ℕ) {x : Element} (e : x ≡ node (elementsIn d) i) where
-  pub parent-first : i ≡ 1 → eqb (x .parent) 0 ≡ parentRule (view (elementsIn d)) i
+module _ (kept : List ℕ) (total i : ℕ) {x : Element} (e : x ≡ node (keptIn kept total) i) where
+  pub parent-first : i ≡ 1 → eqb (x .parent) 0 ≡ parentRule (view (keptIn kept total)) i
   unfolding parentRule view
   parent-first h = simp (eq-eqb i 1 h, ← e)
 
-  module _ (later : i ≡ 1 → ⊥) where
-    pub parent-none : x .parent ≡ 0 → false ≡ parentRule (view (elementsIn d)) i
-    unfolding parentRule view
-    parent-none h = simp (ne-eqb i 1 later, ← e, h)
+  pub parent-later : {b : Bool} → (i ≡ 1 → ⊥) → b ≡ ltb 0 (x .parent) && (eqb (x .parent) (i - 1) || below (view (keptIn kept total)) (x .parent) (i - 1))
+      → b ≡ parentRule (view (keptIn kept total)) i
+  unfolding parentRule view
+  parent-later h q = q ∙ simp (ne-eqb i 1 h, ← e)
 
-    module _ (some : x .parent ≡ 0 → ⊥) where
-      pub parent-before : x .parent ≡ i - 1 → true ≡ parentRule (view (elementsIn d)) i
-      unfolding parentRule view
-      parent-before h = simp (ne-eqb i 1 later, ← e, lt-ltb 0 (x .parent) (omega arith), eq-eqb (x .parent) (i - 1) h)
-
-      pub parent-above : {b : Bool} → (x .parent ≡ i - 1 → ⊥) → b ≡ below (view (elementsIn d)) (x .parent) (i - 1) → b ≡ parentRule (view (elementsIn d)) i
-      unfolding parentRule view
-      parent-above h q = q ∙ simp (ne-eqb i 1 later, ← e, lt-ltb 0 (x .parent) (omega arith), ne-eqb (x .parent) (i - 1) h)
-
-pub edge-kept : (g : Graph) (d : Document) (i : ℕ) {x y : Element} {b : Bool} → x ≡ node (elementsIn d) i → y ≡ node (elementsIn d) (x .parent)
-    → b ≡ childKind g (y .kind) (x .kind) → b ≡ edgeRule g (view (elementsIn d)) i
-unfolding edgeRule view
-edge-kept g d i p q h = h ∙ simp (← p, ← q)
+  pub edge-kept : (g : Graph) {y : Element} {b : Bool} → y ≡ node (keptIn kept total) (x .parent) → b ≡ childKind g (y .kind) (x .kind) → b ≡ edgeRule g (view (keptIn kept total)) i
+  unfolding edgeRule view
+  edge-kept g q h = h ∙ simp (← e, ← q)
 
 -- both rules of element i, whose tests are b and c
 module _ (g : Graph) (es : List Element) (i at : ℕ) {b : Bool} (p : b ≡ parentRule (view es) i) where
@@ -158,45 +131,42 @@ module _ (g : Graph) (es : List Element) (i at : ℕ) {b : Bool} (p : b ≡ pare
     unfolding elementJudged
     element-kept k = simp (← p, not-false b f, ← q, not-false c k)
 
-pub ruleset element-laws = (held-room, parent-first, parent-none, parent-before, parent-above, edge-kept, element-misplaced, element-unjoined, element-kept, needs)
+pub ruleset element-laws = (climb-room, parent-first, parent-later, edge-kept, element-misplaced, element-unjoined, element-kept, needs)
 
 judged-stays : (g : Graph) (es : List Element) (i : ℕ) (s : List ℕ) (at : ℕ) {u : Unit {0}} {n : ℕ} → elementJudged g es i s at ≡ got u n → at ≡ n
 unfolding elementJudged
 judged-stays g es i s at h =
-    let (_, _, p, q) = bind-out (judge (parentRule (view es) i) Number s at) _ h in
-    judge-out (parentRule (view es) i) Number s at p .1 ∙ judge-out (edgeRule g (view es) i) Edge s _ q .1
+    let (_, m, p, q) = bind-out (judgeHere (parentRule (view es) i) Number s at) _ h in
+    judge-out at (parentRule (view es) i) Number s at p .1 ∙ judge-out m (edgeRule g (view es) i) Edge s m q .1
 
 -- The loop over the elements: w is what judging all of them comes to, and those below i keep both rules.
-pub record Judging (g : Graph) (d : Document) (w : Read ℕ) (at i : ℕ) : Type 0 where
+pub record Judging (g : Graph) (es : List Element) (total : ℕ) (w : Read ℕ) (at i : ℕ) : Type 0 where
   pub positive : 1 ≤ i
-  pub most : i ≤ suc (d .count)
-  pub rest : w ≡ passed (elementsJudged g (elementsIn d) i (suc (d .count) - i) [] at)
+  pub most : i ≤ suc total
+  pub rest : w ≡ passed (elementsJudged g es i (suc total - i) [] at)
 
-pub judging-start : (g : Graph) (d : Document) (at : ℕ) → Judging g d (passed (elementsJudged g (elementsIn d) 1 (d .count) [] at)) at 1
-judging-start g d at = let e : suc (d .count) - 1 ≡ d .count = omega arith in record { positive = omega arith; most = omega arith; rest = rw e }
+pub judging-start : (g : Graph) (es : List Element) (total at : ℕ) → Judging g es total (passed (elementsJudged g es 1 total [] at)) at 1
+judging-start g es total at = let e : suc total - 1 ≡ total = omega arith in record { positive = omega arith; most = omega arith; rest = rw e }
 
-module _ {g : Graph} {d : Document} {w : Read ℕ} {i : ℕ} {end : Cursor} (j : Judging g d w (end .at) i) {n : ℕ} (e : n ≡ i) where
-  pub judging-end : d .count < n → got 0 (end .at) ≡ w
+module _ {g : Graph} {es : List Element} {total : ℕ} {w : Read ℕ} {i : ℕ} {end : Cursor} (j : Judging g es total w (end .at) i) {n : ℕ} (e : n ≡ i) where
+  pub judging-end : total < n → got 0 (end .at) ≡ w
   unfolding elementsJudged
-  judging-end h = let z : suc (d .count) - i ≡ 0 = omega arith in sym (rw z at (j .rest))
+  judging-end h = let z : suc total - i ≡ 0 = omega arith in sym (rw z at (j .rest))
 
-  module _ (h : n ≤ d .count) where
-    element : w ≡ passed (elementsJudged g (elementsIn d) i (suc (d .count - i)) [] (end .at))
-    element = let z : suc (d .count) - i ≡ suc (d .count - i) = omega arith in rw z at (j .rest)
+  module _ (h : n ≤ total) where
+    element : w ≡ passed (elementsJudged g es i (suc (total - i)) [] (end .at))
+    element = let z : suc total - i ≡ suc (total - i) = omega arith in rw z at (j .rest)
 
-    pub judging-room : Climbable d → Climbable d × (1 ≤ i) × (i ≤ d .count)
-    judging-room climbable = (climbable, j .positive, omega arith)
-
-    module _ {x : Field} (k : readOf x ≡ passed (elementJudged g (elementsIn d) i [] (end .at))) where
+    module _ {x : Field} (k : readOf x ≡ passed (elementJudged g es i [] (end .at))) where
       pub judging-refused : {r : Refusal} → x ≡ Refused r → readOf x ≡ w
       unfolding elementsJudged
-      judging-refused q = ap readOf q ∙ sym (element ∙ simp (handed-passed (elementJudged g (elementsIn d) i [] (end .at)) k q))
+      judging-refused q = ap readOf q ∙ sym (element ∙ simp (handed-passed (elementJudged g es i [] (end .at)) k q))
 
-      pub judging-again : {v : ℕ} {c : Cursor} → x ≡ Got v c → Judging g d w (end .at) (i + 1)
+      pub judging-again : {v : ℕ} {c : Cursor} → x ≡ Got v c → Judging g es total w (end .at) (i + 1)
       unfolding elementsJudged
       judging-again q =
-          let kept = taken-passed (elementJudged g (elementsIn d) i [] (end .at)) k q in
-          let fewer : d .count - i ≡ suc (d .count) - suc i = omega arith in
-          rw add-one (record { positive = omega arith; most = omega arith; rest = element ∙ simp (kept, ← (judged-stays g (elementsIn d) i [] (end .at) kept), fewer) })
+          let kept = taken-passed (elementJudged g es i [] (end .at)) k q in
+          let fewer : total - i ≡ suc total - suc i = omega arith in
+          rw add-one (record { positive = omega arith; most = omega arith; rest = element ∙ simp (kept, ← (judged-stays g es i [] (end .at) kept), fewer) })
 
-pub ruleset judging-laws = (judging-start, judging-end, judging-room, judging-refused, judging-again, needs)
+pub ruleset judging-laws = (judging-start, judging-end, judging-refused, judging-again, needs)

@@ -1,11 +1,6 @@
-pub mod Lists
-pub mod Readings
-pub mod Places
 pub mod Rows
+pub mod Places
+pub mod Elements
 pub mod Stretch
 pub mod Tables
-pub mod Numbers
-pub mod Elements
 pub mod Reader
-pub mod Tabling
-pub mod File

@@ -1,36 +1,55 @@
 -- Places: what stands in the places that are lent for the rows.
-use Prim.Native.Nat.{ℕ, _+_, _-_, _≤_, _<_}
+use Prim.Native.Nat.{ℕ, zero, suc, _+_, _-_, _≤_, _<_}
 use mathlib.Core.Path.{_≡_, refl, sym, ap, _∙_}
-use mathlib.Core.List.{List}
+use mathlib.Core.List.{List, map}
 use native.Mathlib.Omega.{arith}
-use lib.ListN.{length, getD, set, replicate, length-map}
+use lib.ListN.{length, getD, set, replicate, length-map, length-set}
 use mir.Syntax.{w8}
 use mir.Val.{Fits}
 use borrow.Author.Needs.{needs}
 use Rattle.meaning.specs.declared.Element.{Element}
 use Rattle.meaning.specs.Limits.{elementLimit}
-use Rattle.meaning.specs.Documents.{documentNode}
-use Rattle.fields.specs.Kept.{elementIn}
-use Rattle.fields.proofs.Packed.{map-set}
-use Rattle.tables.specs.declared.Row.{Row}
-use Rattle.tables.specs.Kept.{gatheredIn, none, put, Sound, GoodRow}
-use Rattle.tables.proofs.Lists.{same-anywhere}
+use Rattle.meaning.specs.Documents.{documentNode, node}
+use Rattle.elements.specs.Kept.{elementIn, keptIn, blankPlaces}
+use Rattle.elements.proofs.Kept.{map-set}
+use Rattle.edg.specs.declared.Row.{Row}
+use Rattle.edg.specs.Edg.{GoodRow}
+use Rattle.edg.proofs.Lists.{set-keeps, take-keeps, same-anywhere}
+use Rattle.tables.specs.Kept.{Gathered, gatheredIn, none, put, Sound, Climbable}
 
 -- the places before the first row
-pub blank-none : gatheredIn (replicate elementLimit 1048576) (replicate elementLimit 0) 0 ≡ none
+pub blank-none : (kept : List ℕ) → kept ≡ blankPlaces elementLimit → gatheredIn kept (replicate elementLimit 0) 0 ≡ none
 unfolding none elementIn
-blank-none = refl
+blank-none kept e = rw e
 
 -- what is kept of no rows is sound
-pub none-sound : Sound none
+pub none-sound : {c : Gathered} → c ≡ none → Sound c
 unfolding none
-none-sound = record {
+none-sound e = rw e (record {
   elements-long = refl;
   times-long = refl;
   times-most = λ i. omega (arith, same-anywhere {A = ℕ} 0 elementLimit i);
   total-most = omega arith;
   falling = λ i. omega (arith, ap (λ (e : Element). e .parent) (same-anywhere documentNode elementLimit i));
+})
+
+-- and so is what is kept of one more
+pub put-sound : (c : Gathered) (r : Row) → Sound c → c .total < elementLimit → GoodRow elementLimit r → Sound (put c r)
+unfolding put
+put-sound c r sound room good = record {
+  elements-long = length-set (c .elements) (r .number - 1) (r .element) ∙ sound .elements-long;
+  times-long = length-set (c .times) (r .number - 1) _ ∙ sound .times-long;
+  times-most =
+      set-keeps (λ i n. n ≤ c .total + 1) (c .times) (r .number - 1) _ 0
+      (λ i. omega (arith, sound .times-most i)) (omega (arith, sound .times-most (r .number - 1)));
+  total-most = omega arith;
+  falling = set-keeps (λ i e. e .parent ≤ i) (c .elements) (r .number - 1) (r .element) documentNode (sound .falling) (omega (arith, good .falling));
 }
+
+falls : (es : List Element) → ((i : ℕ) → getD es i documentNode .parent ≤ i) → (v : ℕ) → 0 < v → node es v .parent < v
+unfolding node
+falls es h zero p = absurd (omega arith)
+falls es h (suc i) p = omega (arith, h i)
 
 -- there is a place for each number
 module _ (kept times : List ℕ) (total : ℕ) (sound : Sound (gatheredIn kept times total)) where
@@ -48,14 +67,15 @@ module _ (kept times : List ℕ) (total : ℕ) (sound : Sound (gatheredIn kept t
     pub times-same : length times ≡ length times₀
     times-same = sound .times-long ∙ sym (sound₀ .times-long)
 
-  module _ (kept₀ times₀ : List ℕ) (fresh : gatheredIn kept₀ times₀ 0 ≡ none) where
-    pub kept-still : length kept ≡ length kept₀
-    kept-still = kept-same kept₀ times₀ 0 (rw fresh none-sound)
+  pub climbable : Climbable kept total
+  unfolding keptIn
+  climbable = record {
+    room = omega (arith, kept-long, sound .total-most);
+    most = sound .total-most;
+    falling = falls _ (take-keeps (λ j e. e .parent ≤ j) total (map elementIn kept) documentNode (sound .falling) (λ j. omega arith));
+  }
 
-    pub times-still : length times ≡ length times₀
-    times-still = times-same kept₀ times₀ 0 (rw fresh none-sound)
-
-pub ruleset place-laws = (kept-long, times-enough, kept-same, times-same, kept-still, times-still)
+pub ruleset place-laws = (none-sound, kept-long, times-enough, kept-same, times-same, climbable)
 
 -- one more row
 module _ (kept times : List ℕ) (total : ℕ) where

@@ -1,208 +1,157 @@
--- The file: one law for each return of the reader, from the header to the last element.
-use Prim.Native.Nat.{ℕ, zero, suc, _+_}
+-- The file: what is kept of rows, and one law for each return of the reader, from the header to the last element.
+use Prim.Native.Nat.{ℕ, zero, suc, _+_, _-_}
 use mathlib.Core.Path.{_≡_, refl, sym, ap, _∙_}
 use mathlib.Core.Bool.{Bool, true, false, not}
-use mathlib.Core.List.{List, []}
+use mathlib.Core.List.{List, [], _∷_, map}
 use native.Mathlib.Omega.{arith}
-use native.Mathlib.Nat.{zero-add}
+use native.Mathlib.Nat.{add-zero, zero-add, add-assoc}
 use lib.Dec.{eqb, leb}
-use lib.ListN.{length, getD, replicate}
+use lib.ListN.{length, getD, replicate, length-set}
+use lib.Seq.{getD-set-same, getD-set-other}
+use mir.Syntax.{w8}
+use mir.Val.{Fits}
 use borrow.Author.Needs.{needs}
-use borrow.Author.Tests.{le-leb, lt-leb, eq-eqb, ne-eqb, not-true, not-false}
+use borrow.Author.Tests.{eqb-true, eqb-false, not-true, not-false}
 use Rattle.meaning.specs.declared.Graph.{Graph}
 use Rattle.meaning.specs.declared.Element.{Element}
-use Rattle.meaning.specs.declared.Document.{Document}
-use Rattle.meaning.specs.declared.DocumentRead.{DocumentRead}
 use Rattle.meaning.specs.declared.Outcome.the-variants.{Accepted}
-use Rattle.meaning.specs.declared.Reason.the-variants.{Bound, Number, Edge}
+use Rattle.meaning.specs.declared.Reason.the-variants.{Bound, Number}
 use Rattle.meaning.specs.declared.Refusal.{Refusal}
 use Rattle.meaning.specs.Limits.{elementLimit}
-use Rattle.meaning.specs.Documents.{documentNode, view, parentRule, edgeRule}
-use Rattle.meaning.specs.Records.{documentOf, elementsIn}
-use Rattle.fields.specs.Read.{Read, got, refused, bind, _>>_, judge, readOf, passed, beside, byte, header, end}
-use Rattle.fields.specs.Outcomes.{outcomeOf, documentRead}
+use Rattle.meaning.specs.Documents.{documentNode}
+use Rattle.fields.specs.Read.{Read, got, refused, bind, judge, answered, refusalOf, readOf, passed, beside, pick, end}
+use Rattle.fields.specs.Outcomes.{outcomeOf}
 use Rattle.fields.specs.declared.Cursor.{Cursor}
 use Rattle.fields.specs.declared.Field.{Field}
 use Rattle.fields.specs.declared.Field.the-variants.{Got, Refused}
 use Rattle.fields.proofs.Laws.{taken, handed, taken-passed, handed-passed, beside-got, beside-refused}
-use Rattle.fields.proofs.Formats.{bind-out, end-out}
-use Rattle.fields.proofs.Outcomes.{got-same}
-use Rattle.tables.specs.declared.Row.{Row}
-use Rattle.tables.specs.Edg.{tablesRead, rowsFile, times, eachOnce, placed, elementsOf, elementJudged, elementsJudged, whole, tablesFile}
-use Rattle.tables.specs.Kept.{mapped, Gathered, none, added, GoodRow, Answers, ones}
-use Rattle.tables.proofs.Lists.{All, same-anywhere}
-use Rattle.tables.proofs.Readings.{mapped-refused, turned-away}
-use Rattle.tables.proofs.Places.{none-sound, blank-none, place-laws}
-use Rattle.tables.proofs.Tables.{added-total, tables-out}
-use Rattle.tables.proofs.Numbers.{added-elements, added-times, ones-once}
+use Rattle.elements.specs.declared.ElementsRead.{ElementsRead}
+use Rattle.elements.specs.Kept.{elementIn, keptIn, Keeps}
+use Rattle.elements.proofs.Kept.{keeps-none, keeps-all}
+use Rattle.edg.specs.declared.Row.{Row}
+use Rattle.edg.specs.Edg.{tablesRead, head, rowsFile, count, times, ones, placed, elementsOf, elementJudged, elementsJudged, whole, tablesFile, GoodRow}
+use Rattle.edg.proofs.Lists.{either, All, all-none, all-more, same-anywhere}
+use Rattle.edg.proofs.File.{rows-good}
+use Rattle.tables.specs.Kept.{mapped, Gathered, gatheredIn, none, put, added, Answers}
+use Rattle.tables.proofs.Places.{blank-none, none-sound, climbable, place-laws}
+use Rattle.tables.proofs.Tables.{mapped-refused, mapped-got, turned-away, added-total}
 
 -- header, k and the tables
-module _ (g : Graph) (s : List ℕ) {c : Gathered} (n : c ≡ none) {x : Field} (p : readOf x ≡ passed (header 0x45 0x44 0x47 s 0)) where
-  pub rows-headless : {r : Refusal} → x ≡ Refused r → Answers x c (mapped (added none) (rowsFile elementLimit g s 0))
+module _ (k : ℕ) (s : List ℕ) {x : Field} (p : readOf x ≡ head k s 0) where
+  pub rows-unheaded : {c : Gathered} {r : Refusal} → c ≡ none → x ≡ Refused r → Answers x c (mapped (added none) (rowsFile elementLimit k s 0))
   unfolding mapped rowsFile
-  rows-headless q = turned-away (rw n none-sound) q (simp (handed-passed (header 0x45 0x44 0x47 s 0) p q))
+  rows-unheaded n q = turned-away (none-sound n) q (simp (handed p q))
 
-  module _ {v : ℕ} {first : Cursor} (q : x ≡ Got v first) where
-    headed : header 0x45 0x44 0x47 s 0 ≡ got tt (first .at)
-    headed = taken-passed (header 0x45 0x44 0x47 s 0) p q
+  module _ {v : ℕ} {after : Cursor} (q : x ≡ Got v after) {t : Field} {d : Gathered} (w : Answers t d (mapped (added none) (tablesRead elementLimit 0 0 k s (after .at)))) where
+    pub rows-stopped : {r : Refusal} → t ≡ Refused r → Answers t d (mapped (added none) (rowsFile elementLimit k s 0))
+    unfolding mapped rowsFile
+    rows-stopped j = turned-away (w .sound) j (simp (taken p q, mapped-refused (added none) (tablesRead elementLimit 0 0 k s (after .at)) (beside-refused d (w .right) j)))
 
-    module _ {y : Field} (h : readOf y ≡ byte s (first .at)) where
-      pub rows-uncounted : {r : Refusal} → y ≡ Refused r → Answers y c (mapped (added none) (rowsFile elementLimit g s 0))
-      unfolding mapped rowsFile
-      rows-uncounted i = turned-away (rw n none-sound) i (simp (headed, handed h i))
+    pub rows-told : {m : ℕ} {last : Cursor} {u : Field} → t ≡ Got m last → u ≡ answered (leb 1 (d .total)) (Got m last) (refusalOf Bound (last .at))
+        → Answers u d (mapped (added none) (rowsFile elementLimit k s 0))
+    unfolding mapped rowsFile answered none
+    rows-told {m} {last} j l =
+        let (rs, i, kept) = mapped-got (added none) (tablesRead elementLimit 0 0 k s (after .at)) (beside-got d (w .right) j) in
+        let long : d .total ≡ length rs = omega (arith, added-total none rs, ap (λ (c : Gathered). c .total) kept) in
+        record { sound = w .sound; right = rw l (go rs kept (leb 1 (d .total)) ∙ simp (taken p q, i, ← long)) }
+      where
+        go : (rs : List Row) → added none rs ≡ d → (b : Bool)
+            → beside (answered b (Got m last) (refusalOf Bound (last .at))) d ≡ mapped (added none) (bind (judge (last .at) b Bound s (last .at)) (λ _ at. got rs at))
+        go rs kept true = rw kept
+        go rs kept false = refl
 
-      module _ {k : ℕ} {after : Cursor} (i : y ≡ Got k after) {a b : ℕ} (wide : a ≡ k) (place : b ≡ g .k) where
-        pub rows-other : {u : Field} → (a ≡ b → ⊥) → u ≡ Refused (record { reason = Bound }) → Answers u c (mapped (added none) (rowsFile elementLimit g s 0))
-        unfolding mapped rowsFile
-        rows-other o j = turned-away (rw n none-sound) j (simp (headed, taken h i, ne-eqb k (g .k) (λ e. o (omega arith))))
-
-        module _ (same : a ≡ b) {t : Field} {d : Gathered} (w : Answers t d (mapped (added none) (tablesRead elementLimit 0 0 (g .k) s (after .at)))) where
-          kind-count : k ≡ g .k
-          kind-count = omega arith
-
-          all-kinds : eqb (g .k) (g .k) ≡ true
-          all-kinds = eq-eqb (g .k) (g .k) refl
-
-          pub rows-stopped : {r : Refusal} → t ≡ Refused r → Answers t d (mapped (added none) (rowsFile elementLimit g s 0))
-          unfolding mapped rowsFile
-          rows-stopped j =
-              let stop = mapped-refused (added none) (tablesRead elementLimit 0 0 (g .k) s (after .at)) (beside-refused d (w .right) j) in
-              turned-away (w .sound) j (simp (headed, taken h i, kind-count, all-kinds, stop))
-
-          module _ {m : ℕ} {last : Cursor} (j : t ≡ Got m last) where
-            -- the rows that were read
-            tabled : (rs : List Row) × (tablesRead elementLimit 0 0 (g .k) s (after .at) ≡ got rs (last .at)) × (added none rs ≡ d) × (length rs ≡ d .total)
-            unfolding mapped none
-            tabled =
-                let (rs, n, q, f) = bind-out (tablesRead elementLimit 0 0 (g .k) s (after .at)) _ (beside-got d (w .right) j) in
-                let kept : added none rs ≡ d = cc in
-                let next : n ≡ last .at = cc in
-                (rs, rw next at q, kept, omega (arith, added-total none rs, ap (λ (c : Gathered). c .total) kept))
-
-            pub rows-none : {u : Field} → d .total ≡ 0 → u ≡ Refused (record { reason = Bound }) → Answers u d (mapped (added none) (rowsFile elementLimit g s 0))
-            unfolding mapped rowsFile
-            rows-none o l =
-                let (rs, q, kept, long) = tabled in
-                turned-away (w .sound) l (simp (headed, taken h i, kind-count, all-kinds, q, lt-leb 1 (length rs) (omega arith)))
-
-            pub rows-read : (d .total ≡ 0 → ⊥) → Answers t d (mapped (added none) (rowsFile elementLimit g s 0))
-            unfolding mapped rowsFile
-            rows-read o =
-                let (rs, q, kept, long) = tabled in
-                record { sound = w .sound; right = ap (λ (f : Field). beside f d) j ∙ sym (simp (headed, taken h i, kind-count, all-kinds, q, le-leb 1 (length rs) (omega arith), kept)) }
-
-pub ruleset rows-laws = (rows-headless, rows-uncounted, rows-other, rows-stopped, rows-none, rows-read, needs)
-
--- nothing that is judged of the whole depends on the bytes
-module _ (g : Graph) (es : List Element) (s : List ℕ) where
-  element-anywhere : (i at : ℕ) → elementJudged g es i s at ≡ elementJudged g es i [] at
-  unfolding elementJudged
-  element-anywhere i at = go (parentRule (view es) i) (edgeRule g (view es) i)
-    where
-      go : (b c : Bool) → (judge b Number >> judge c Edge) s at ≡ (judge b Number >> judge c Edge) [] at
-      go true true = refl
-      go true false = refl
-      go false c = refl
-
-  judged-anywhere : (i n at : ℕ) → elementsJudged g es i n s at ≡ elementsJudged g es i n [] at
-  unfolding elementsJudged
-  judged-anywhere i zero at = refl
-  judged-anywhere i (suc n) at = rw (element-anywhere i at) (go (judged-anywhere (suc i) n) (elementJudged g es i [] at))
-    where
-      go : ((m : ℕ) → elementsJudged g es (suc i) n s m ≡ elementsJudged g es (suc i) n [] m) → (e : Read (Unit {0}))
-          → bind e (λ _ m. elementsJudged g es (suc i) n s m) ≡ bind e (λ _ m. elementsJudged g es (suc i) n [] m)
-      go rest (got u m) = rest m
-      go rest (refused r) = refl
-
-rows-good : (g : Graph) (s : List ℕ) {rs : List Row} {n : ℕ} → rowsFile elementLimit g s 0 ≡ got rs n → All (GoodRow elementLimit) rs
-unfolding rowsFile
-rows-good g s h =
-    let (_, a, _, h1) = bind-out (header 0x45 0x44 0x47 s 0) _ h in
-    let (k, b, _, h2) = bind-out (byte s a) _ h1 in
-    let (_, c, _, h3) = bind-out (judge (eqb k (g .k)) Bound s b) _ h2 in
-    let (rs, d, i, h4) = bind-out (tablesRead elementLimit 0 0 k s c) _ h3 in
-    let (_, e, _, h5) = bind-out (judge (leb 1 (length rs)) Bound s d) _ h4 in
-    rw (got-same h5 .0) at (tables-out elementLimit 0 0 k s c i)
+pub ruleset rows-laws = (place-laws, rows-unheaded, rows-stopped, rows-told, needs)
 
 -- what is kept of rows
-record Keeps (c : Gathered) (rs : List Row) : Type 0 where
-  count : c .total ≡ length rs
-  elements : c .elements ≡ placed (replicate elementLimit documentNode) rs
-  once : ones (c .total) (c .times) ≡ eachOnce (length rs) rs
+added-elements : (c : Gathered) (rs : List Row) → added c rs .elements ≡ placed (c .elements) rs
+unfolding added placed put
+added-elements c [] = refl
+added-elements c (r ∷ rs) = added-elements (put c r) rs
 
-keeps-rows : {c : Gathered} {rs : List Row} → All (GoodRow elementLimit) rs → added none rs ≡ c → Keeps c rs
-unfolding none
-keeps-rows {c} {rs} good e =
-    let count : c .total ≡ length rs = rw e at (added-total none rs ∙ zero-add (length rs)) in
-    let came : (i : ℕ) → getD (added none rs .times) i 0 ≡ times (suc i) rs =
-    λ i. added-times none good refl i ∙ ap (λ n. n + times (suc i) rs) (same-anywhere {A = ℕ} 0 elementLimit i) ∙ zero-add (times (suc i) rs) in
-    record {
-      count = count;
-      elements = rw e at (added-elements none rs);
-      once = rw count (ones-once (c .times) rs (rw e at came) (length rs));
-    }
+put-times : (c : Gathered) (r : Row) → GoodRow elementLimit r → length (c .times) ≡ elementLimit → (i : ℕ)
+    → getD (put c r .times) i 0 ≡ getD (c .times) i 0 + pick (eqb (r .number) (suc i)) 1 0
+unfolding put
+put-times c r good long i =
+    let positive = good .positive in
+    let most = good .most in
+    either (eqb (r .number) (suc i))
+    (λ q. let here : r .number - 1 ≡ i = omega (arith, eqb-true (r .number) (suc i) q) in rw (q, here) (getD-set-same (c .times) i _ 0 (omega arith)))
+    (λ q. rw q (getD-set-other (c .times) (r .number - 1) i _ 0 (λ e. eqb-false (r .number) (suc i) q (omega arith)) ∙ sym (add-zero _)))
 
-keeps-listed : {c : Gathered} {rs : List Row} → Keeps c rs → elementsIn (record { count = c .total; elements = c .elements }) ≡ elementsOf elementLimit rs
-unfolding elementsIn elementsOf
-keeps-listed k = rw (k .elements, k .count)
+added-times : (c : Gathered) {rs : List Row} → All (GoodRow elementLimit) rs → length (c .times) ≡ elementLimit → (i : ℕ)
+    → getD (added c rs .times) i 0 ≡ getD (c .times) i 0 + times (suc i) rs
+unfolding added count put
+added-times c all-none long i = sym (add-zero _)
+added-times c (all-more {r} {rs} good more) long i =
+    added-times (put c r) more (length-set (c .times) (r .number - 1) _ ∙ long) i ∙ omega (arith, put-times c r good long i)
 
-module _ (g : Graph) (s : List ℕ) where
-  -- a field turned the file away
-  away : {y : DocumentRead} {f : Field} {r : Refusal} → y ≡ record { outcome = outcomeOf (readOf f); document = documentOf [] } → f ≡ Refused r
-      → tablesFile elementLimit g s 0 ≡ refused r → y ≡ documentRead (tablesFile elementLimit g s 0)
-  away h q e = h ∙ rw (q, e)
+record Holds (kept came : List ℕ) (total : ℕ) (rs : List Row) : Type 0 where
+  count : total ≡ length rs
+  elements : keptIn kept total ≡ elementsOf elementLimit rs
+  once : ones total (λ i. getD came i 0) ≡ ones (length rs) (λ i. times (suc i) rs)
 
-  module _ {x : Field} {c : Gathered} (t : Answers x c (mapped (added none) (rowsFile elementLimit g s 0))) where
-    pub read-refused : {y : DocumentRead} {r : Refusal} → y ≡ record { outcome = outcomeOf (readOf (x)); document = documentOf [] } → x ≡ Refused r
-        → y ≡ documentRead (tablesFile elementLimit g s 0)
-    unfolding tablesFile
-    read-refused h q = away h q (simp (mapped-refused (added none) (rowsFile elementLimit g s 0) (beside-refused c (t .right) q)))
+holds-rows : (kept came : List ℕ) (total : ℕ) {rs : List Row} → All (GoodRow elementLimit) rs → added none rs ≡ gatheredIn kept came total → Holds kept came total rs
+unfolding none keptIn elementsOf
+holds-rows kept came total {rs} good e =
+    let long : total ≡ length rs = omega (arith, ap (λ (c : Gathered). c .total) e, added-total none rs) in
+    let placed-there : map elementIn kept ≡ placed (replicate elementLimit documentNode) rs = sym (ap (λ (c : Gathered). c .elements) e) ∙ added-elements none rs in
+    let often : (i : ℕ) → getD came i 0 ≡ times (suc i) rs =
+    λ i. omega (arith, ap (λ (c : Gathered). getD (c .times) i 0) e, added-times none good refl i, same-anywhere {A = ℕ} 0 elementLimit i) in
+    record { count = long; elements = rw (placed-there, long); once = rw long (λ k. ones (length rs) (λ i. often i k)) }
 
-    module _ {v : ℕ} {last : Cursor} (q : x ≡ Got v last) where
-      found : (rs : List Row) × (rowsFile elementLimit g s 0 ≡ got rs (last .at)) × Keeps c rs
-      unfolding mapped
-      found =
-          let (rs, n, i, j) = bind-out (rowsFile elementLimit g s 0) _ (beside-got c (t .right) q) in
-          let (kept, next) = got-same j in
-          (rs, rw next at i, keeps-rows (rows-good g s i) kept)
+-- nothing that is judged of the whole depends on the bytes
+judged-anywhere : (g : Graph) (es : List Element) (s : List ℕ) (i n at : ℕ) → elementsJudged g es i n [] at ≡ elementsJudged g es i n s at
+unfolding elementsJudged elementJudged
+judged-anywhere g es s i zero at = refl
+judged-anywhere g es s i (suc n) at = λ k. bind (elementJudged g es i s at) (λ _ m. judged-anywhere g es s (suc i) n m k)
 
-      module _ {f : Field} (h : readOf f ≡ passed (end s (last .at))) where
-        pub read-extra : {y : DocumentRead} {r : Refusal} → y ≡ record { outcome = outcomeOf (readOf f); document = documentOf [] } → f ≡ Refused r
-            → y ≡ documentRead (tablesFile elementLimit g s 0)
-        unfolding tablesFile
-        read-extra i k = let (rs, e, _) = found in away i k (simp (e, handed-passed (end s (last .at)) h k))
+holds-judged : (g : Graph) (s : List ℕ) (at : ℕ) {kept came : List ℕ} {total : ℕ} {rs : List Row} → Holds kept came total rs
+    → elementsJudged g (keptIn kept total) 1 total [] at ≡ elementsJudged g (elementsOf elementLimit rs) 1 (length rs) s at
+holds-judged g s at {rs = rs} holds = rw (holds .elements, holds .count) (judged-anywhere g (elementsOf elementLimit rs) s 1 (length rs) at)
 
-        module _ {m : ℕ} {past : Cursor} (k : f ≡ Got m past) {b : Bool} (o : b ≡ ones (c .total) (c .times)) where
-          ended : end s (last .at) ≡ got tt (last .at)
-          ended = let e = taken-passed (end s (last .at)) h k in rw (← (end-out s (last .at) e .1)) at e
+module _ (g : Graph) (s : List ℕ) (bytes : (i : ℕ) → Fits w8 (getD s i 0)) (kept came : List ℕ) (total : ℕ)
+    {x : Field} (t : Answers x (gatheredIn kept came total) (mapped (added none) (rowsFile elementLimit (g .k) s 0))) where
+  abbrev file : Read (List Element)
+  file = tablesFile elementLimit g s 0
 
-          pub read-repeated : {y : DocumentRead} {u : Field} → y ≡ record { outcome = outcomeOf (readOf u); document = documentOf [] } → not b ≡ true
-              → u ≡ Refused (record { reason = Number }) → y ≡ documentRead (tablesFile elementLimit g s 0)
+  pub read-refused : {y : ElementsRead} {r : Refusal} → y ≡ record { outcome = outcomeOf (readOf x); count = 0 } → x ≡ Refused r → Keeps file kept y
+  unfolding tablesFile
+  read-refused h q = keeps-none kept h q (simp (mapped-refused (added none) (rowsFile elementLimit (g .k) s 0) (beside-refused (gatheredIn kept came total) (t .right) q)))
+
+  module _ {v : ℕ} {last : Cursor} (q : x ≡ Got v last) where
+    found : (rs : List Row) × (rowsFile elementLimit (g .k) s 0 ≡ got rs (last .at)) × Holds kept came total rs
+    found =
+        let (rs, i, same) = mapped-got (added none) (rowsFile elementLimit (g .k) s 0) (beside-got (gatheredIn kept came total) (t .right) q) in
+        (rs, i, holds-rows kept came total (rows-good elementLimit (g .k) s (λ j. bytes j .fits) i) same)
+
+    module _ {f : Field} (h : readOf f ≡ passed (end s (last .at))) where
+      pub read-extra : {y : ElementsRead} {r : Refusal} → y ≡ record { outcome = outcomeOf (readOf f); count = 0 } → f ≡ Refused r → Keeps file kept y
+      unfolding tablesFile
+      read-extra i k = let (rs, e, _) = found in keeps-none kept i k (simp (e, handed-passed (end s (last .at)) h k))
+
+      module _ {m : ℕ} {past : Cursor} (k : f ≡ Got m past) {b : Bool} (o : b ≡ ones total (λ i. getD came i 0)) where
+        ended : end s (last .at) ≡ got tt (past .at)
+        ended = taken-passed (end s (last .at)) h k
+
+        pub read-repeated : {y : ElementsRead} {u : Field} → y ≡ record { outcome = outcomeOf (readOf u); count = 0 } → not b ≡ true
+            → u ≡ Refused (refusalOf Number (past .at)) → Keeps file kept y
+        unfolding tablesFile whole
+        read-repeated i p l = let (rs, e, holds) = found in keeps-none kept i l (simp (e, ended, ← (holds .once), ← o, not-true b p))
+
+        module _ (p : not b ≡ false) {j : Field} (w : readOf j ≡ passed (elementsJudged g (keptIn kept total) 1 total [] (past .at))) where
+          pub read-misjudged : {y : ElementsRead} {r : Refusal} → y ≡ record { outcome = outcomeOf (readOf j); count = 0 } → j ≡ Refused r → Keeps file kept y
           unfolding tablesFile whole
-          read-repeated i p l = let (rs, e, keeps) = found in away i l (simp (e, ended, ← (keeps .once), ← o, not-true b p))
+          read-misjudged i l =
+              let (rs, e, holds) = found in
+              let stop = sym (holds-judged g s (past .at) holds) ∙ handed-passed (elementsJudged g (keptIn kept total) 1 total [] (past .at)) w l in
+              keeps-none kept i l (simp (e, ended, ← (holds .once), ← o, not-false b p, stop))
 
-          module _ (p : not b ≡ false) (j : Field) (w : readOf j ≡ passed (elementsJudged g (elementsIn (record { count = c .total; elements = c .elements })) 1 (c .total) [] (last .at))) where
-            judged : (rs : List Row) → Keeps c rs → readOf j ≡ passed (elementsJudged g (elementsOf elementLimit rs) 1 (length rs) s (last .at))
-            judged rs keeps = w ∙ rw (keeps-listed keeps, keeps .count, ← (judged-anywhere g (elementsOf elementLimit rs) s 1 (length rs) (last .at)))
-
-            once : (rs : List Row) → Keeps c rs → eachOnce (length rs) rs ≡ true
-            once rs keeps = sym (keeps .once) ∙ sym o ∙ not-false b p
-
-            pub read-misjudged : {y : DocumentRead} {r : Refusal} → y ≡ record { outcome = outcomeOf (readOf j); document = documentOf [] } → j ≡ Refused r
-                → y ≡ documentRead (tablesFile elementLimit g s 0)
-            unfolding tablesFile whole
-            read-misjudged i l =
-                let (rs, e, keeps) = found in
-                let stop = handed-passed (elementsJudged g (elementsOf elementLimit rs) 1 (length rs) s (last .at)) (judged rs keeps) l in
-                away i l (simp (e, ended, once rs keeps, stop))
-
-            pub read-accepted : {d : Document} {n : ℕ} {past : Cursor} → j ≡ Got n past → d ≡ documentOf (elementsIn (record { count = c .total; elements = c .elements }))
-                → _≡_ {A = DocumentRead} (record { outcome = Accepted; document = d }) (documentRead (tablesFile elementLimit g s 0))
-            unfolding tablesFile whole
-            read-accepted {past = past} l same =
-                let (rs, e, keeps) = found in
-                let passes = taken-passed (elementsJudged g (elementsOf elementLimit rs) 1 (length rs) s (last .at)) (judged rs keeps) l in
-                let file : tablesFile elementLimit g s 0 ≡ got (elementsOf elementLimit rs) (past .at) = simp (e, ended, once rs keeps, passes) in
-                rw (file, same ∙ ap documentOf (keeps-listed keeps))
+          pub read-accepted : {n : ℕ} {z : Cursor} → j ≡ Got n z → Keeps file kept (record { outcome = Accepted; count = total })
+          unfolding tablesFile whole
+          read-accepted {z = z} l =
+              let (rs, e, holds) = found in
+              let pass = sym (holds-judged g s (past .at) holds) ∙ taken-passed (elementsJudged g (keptIn kept total) 1 total [] (past .at)) w l in
+              let is : file ≡ got (elementsOf elementLimit rs) (z .at) = simp (e, ended, ← (holds .once), ← o, not-false b p, pass) in
+              keeps-all kept is (climbable kept came total (t .sound) .room) (holds .elements)
 
 pub ruleset read-laws = (place-laws, blank-none, read-refused, read-extra, read-repeated, read-misjudged, read-accepted, needs)

@@ -1,18 +1,19 @@
 -- What the reader keeps of the rows so far, and how its functions' answers say what was read: for contracts inside this crate.
-use Prim.Native.Nat.{ℕ, zero, suc, _+_, _-_, _≤_, _<_}
+use Prim.Native.Nat.{ℕ, _+_, _*_, _-_, _≤_, _<_}
 use mathlib.Core.Path.{_≡_}
-use mathlib.Core.Bool.{Bool, true, _&&_}
 use mathlib.Core.List.{List, [], _∷_, map}
-use lib.Dec.{eqb}
 use lib.ListN.{length, getD, set, replicate}
-use Rattle.meaning.specs.declared.Document.{Document}
 use Rattle.meaning.specs.declared.Element.{Element}
-use Rattle.meaning.specs.Limits.{elementLimit}
-use Rattle.meaning.specs.Documents.{documentNode}
-use Rattle.fields.specs.Kept.{elementIn}
+use Rattle.meaning.specs.Limits.{small, elementLimit}
+use Rattle.meaning.specs.Documents.{documentNode, node}
 use Rattle.fields.specs.Read.{Read, got, bind, beside}
 use Rattle.fields.specs.declared.Field.{Field}
-use Rattle.tables.specs.declared.Row.{Row}
+use Rattle.elements.specs.Kept.{elementIn, keptIn}
+use Rattle.edg.specs.declared.Row.{Row}
+
+-- the bytes of a row: two numbers of nodes and a text number
+abbrev pub rowLength : ℕ
+rowLength = 2 * small .number + 2
 
 unfoldable pub mapped : {A B : Type 0} → (A → B) → Read A → Read B
 mapped f e = bind e (λ a at. got (f a) at)
@@ -41,32 +42,21 @@ unfoldable pub added : Gathered → List Row → Gathered
 added c [] = c
 added c (r ∷ rs) = added (put c r) rs
 
--- the parent of each element has a smaller number
-abbrev pub Falling : List Element → Type 0
-Falling es = (i : ℕ) → getD es i documentNode .parent ≤ i
-
+-- there is a place for each number, none came more often than there were rows, and parents have smaller numbers
 pub record Sound (c : Gathered) : Type 0 where
   pub elements-long : length (c .elements) ≡ elementLimit
   pub times-long : length (c .times) ≡ elementLimit
   pub times-most : (i : ℕ) → getD (c .times) i 0 ≤ c .total
   pub total-most : c .total ≤ elementLimit
-  pub falling : Falling (c .elements)
-
-pub record GoodRow (limit : ℕ) (r : Row) : Type 0 where
-  pub positive : 1 ≤ r .number
-  pub most : r .number ≤ limit
-  pub falling : r .element .parent < r .number
+  pub falling : (i : ℕ) → getD (c .elements) i documentNode .parent ≤ i
 
 -- e was read: it is kept, beside where reading goes on, or the refusal was met
 pub record Answers (next : Field) (c : Gathered) (e : Read Gathered) : Type 0 where
   pub sound : Sound c
   pub right : beside next c ≡ e
 
-unfoldable pub ones : ℕ → List ℕ → Bool
-ones zero ts = true
-ones (suc n) ts = ones n ts && eqb (getD ts n 0) 1
-
-pub record Climbable (d : Document) : Type 0 where
-  pub long : length (d .elements) ≡ elementLimit
-  pub most : d .count ≤ elementLimit
-  pub falling : Falling (d .elements)
+-- from each element that is kept, parents lead up to the document node
+pub record Climbable (kept : List ℕ) (total : ℕ) : Type 0 where
+  pub room : total ≤ length kept
+  pub most : total ≤ elementLimit
+  pub falling : (v : ℕ) → 0 < v → node (keptIn kept total) v .parent < v

@@ -1,2 +1,2 @@
-pub mod Edg
+-- What the functions of the reader of tables files promise each other.
 pub mod Kept

@@ -1,37 +1,33 @@
 // The reader of tables files.
 ghost use mathlib.Core.Path.{_≡_};
+ghost use mathlib.Core.Bool.{_&&_, _||_};
 ghost use mathlib.Core.List.{[]};
 ghost use Prim.Native.Nat.{_+_, _*_, _-_, _≤_, _<_, min};
-ghost use lib.ListN.{length};
+ghost use lib.Dec.{eqb, ltb};
+ghost use lib.ListN.{length, getD};
 ghost use Rattle.meaning.specs.Limits.{elementLimit};
 ghost use Rattle.meaning.specs.Documents.{view, below, parentRule, edgeRule};
-ghost use Rattle.meaning.specs.Records.{elementsIn};
 ghost use Rattle.fields.specs.Read.{readOf, passed, beside};
-ghost use Rattle.fields.specs.Kept.{documentIn};
-ghost use Rattle.fields.specs.Outcomes.{documentRead};
-ghost use Rattle.tables.specs.Edg.{rowRule, rowRead, rowsRead, tablesRead, rowsFile, elementJudged, elementsJudged, tablesFile};
-ghost use Rattle.tables.specs.Kept.{mapped, gatheredIn, none, put, added, Sound, GoodRow, Answers, ones, Climbable};
+ghost use Rattle.elements.specs.Kept.{keptIn, blankPlaces, Keeps};
+ghost use Rattle.edg.specs.Edg.{rowRule, rowRead, rowsRead, countRead, tablesRead, head, rowsFile, ones, elementJudged, elementsJudged, tablesFile, GoodRow};
+ghost use Rattle.tables.specs.Kept.{rowLength, mapped, gatheredIn, none, put, added, Sound, Answers, Climbable};
+use edg::Row;
+use elements::DOCUMENT_NODE;
+use elements::ElementsRead;
+use elements::node_at;
+use elements::packed;
+use elements::turned_away;
 use fields::Cursor;
-use fields::DOCUMENT_NODE;
 use fields::Field;
-use fields::kept::BLANK;
-use fields::kept::document_in;
-use fields::kept::node_at;
-use fields::kept::packed;
-use fields::turned_away;
-use meaning::DocumentRead;
 use meaning::Element;
 use meaning::Graph;
 use meaning::Outcome;
 use meaning::Reason;
-
-const LIMIT: usize = 127;
-
-// A row: the number of an element, and the element.
-pub struct Row {
-    pub number: u16,
-    pub element: Element,
-}
+use meaning::SMALL;
+use numbers::u8_to_u16;
+use numbers::u8_to_usize;
+use numbers::u16_to_u8;
+use numbers::u16_to_usize;
 
 const NO_ROW: Row = Row {
     number: 0,
@@ -50,34 +46,17 @@ struct TotalRead {
     total: usize,
 }
 
-fn wide(n: u16) -> usize
-    ensures { λ r. ⌜ r ≡ n ⌝ }
+fn keeps_row_rule(before: u16, row: Row) -> bool
+    ensures { λ r. ⌜ r ≡ rowRule elementLimit before row ⌝ }
 {
-    n as usize
+    let number = row.number;
+    let parent = row.element.parent;
+    (1 <= number)
+        & ((u16_to_usize(number) <= SMALL.elements)
+            & ((before < number) & (u8_to_u16(parent) < number)))
 }
 
-fn place(v: u8) -> usize
-    ensures { λ r. ⌜ r ≡ v ⌝ }
-{
-    v as usize
-}
-
-fn keeps_row_rule(before: u16, from: u16, to: u16) -> bool
-    ensures { λ r. ⌜ r ≡ rowRule elementLimit before from to ⌝ }
-{
-    if to == 0 {
-        return false;
-    }
-    if LIMIT < wide(to) {
-        return false;
-    }
-    if to <= before {
-        return false;
-    }
-    from < to
-}
-
-// A row of a table, behind the row numbered `before`. Its four bytes are one field, so they are judged when all are there.
+// A row of a table, behind the row numbered `before`. Its bytes are one field, so they are judged when all are there.
 fn read_row(part: &[u8], cursor: Cursor, kind: u8, before: u16) -> RowRead
     ensures { λ r. ⌜ beside (r .next) (r .row) ≡ rowRead elementLimit kind before (now (part .entry)) (cursor .at) ⌝ }
 {
@@ -90,23 +69,20 @@ fn read_row(part: &[u8], cursor: Cursor, kind: u8, before: u16) -> RowRead
         return RowRead { next, row: NO_ROW };
     };
     let next = third.word(part);
-    let Field::Got(text, after) = next else {
+    let Field::Got(text, _) = next else {
         return RowRead { next, row: NO_ROW };
     };
-    if !keeps_row_rule(before, from, to) {
-        let next = fields::refuse(Reason::Number);
-        return RowRead { next, row: NO_ROW };
-    }
-    RowRead {
-        next: Field::Got(0, after),
-        row: Row {
-            number: to,
-            element: Element {
-                parent: from as u8,
-                kind,
-                text,
-            },
+    let row = Row {
+        number: to,
+        element: Element {
+            parent: u16_to_u8(from),
+            kind,
+            text,
         },
+    };
+    RowRead {
+        next: cursor.judged(next, keeps_row_rule(before, row), Reason::Number),
+        row,
     }
 }
 
@@ -115,25 +91,10 @@ fn keep(kept: &mut [u32], times: &mut [u8], total: usize, row: Row)
     requires { ⌜ Sound (gatheredIn (now kept) (now times) total) × (total < elementLimit) × GoodRow elementLimit row ⌝ }
     ensures { λ r. ⌜ gatheredIn (now (kept .exit)) (now (times .exit)) (total + 1) ≡ put (gatheredIn (now (kept .entry)) (now (times .entry)) total) row ⌝ }
 {
-    let at = wide(row.number) - 1;
+    let at = u16_to_usize(row.number) - 1;
     let element = row.element;
     kept[at] = packed(element);
     times[at] = times[at] + 1;
-}
-
-// Whether each number from 1 to the total came once.
-fn each_once(times: &[u8], total: usize) -> bool
-    requires { ⌜ total ≤ length (now times) ⌝ }
-    ensures { λ r. ⌜ r ≡ ones total (now (times .entry)) ⌝ }
-{
-    let mut i: usize = 0;
-    while i < total {
-        if times[i] != 1 {
-            return false;
-        }
-        i += 1;
-    }
-    true
 }
 
 // The rows of one type: `part` holds their bytes, as far as the file has them.
@@ -169,12 +130,28 @@ fn read_table(
     TotalRead { next, total }
 }
 
+// How many rows the next table has, behind `total` rows.
+fn read_count(s: &[u8], cursor: Cursor, total: usize) -> Field
+    requires { ⌜ total ≤ elementLimit ⌝ }
+    ensures { λ r. ⌜ readOf r ≡ countRead elementLimit total (now (s .entry)) (cursor .at) ⌝ }
+{
+    let read = cursor.byte(s);
+    let Field::Got(count, _) = read else {
+        return read;
+    };
+    cursor.judged(
+        read,
+        total + u16_to_usize(count) <= SMALL.elements,
+        Reason::Bound,
+    )
+}
+
 // Where so many rows from a on end: at the end of the file where that comes first.
 fn stretch_end(s: &[u8], a: usize, count: u16) -> usize
     requires { ⌜ a ≤ length (now s) ⌝ }
-    ensures { λ r. ⌜ r ≡ min (a + count * 4) (length (now (s .entry))) ⌝ }
+    ensures { λ r. ⌜ r ≡ min (a + count * rowLength) (length (now (s .entry))) ⌝ }
 {
-    let size = wide(count) * 4;
+    let size = (count as usize) * (2 * SMALL.number + 2);
     if s.len() - a < size {
         return s.len();
     }
@@ -189,14 +166,10 @@ fn read_tables(s: &[u8], start: Cursor, k: u8, kept: &mut [u32], times: &mut [u8
     let mut cursor = start;
     let mut kind: u8 = 0;
     while kind < k {
-        let next = cursor.byte(s);
+        let next = read_count(s, cursor, total);
         let Field::Got(count, after) = next else {
             return TotalRead { next, total };
         };
-        if LIMIT - total < wide(count) {
-            let next = fields::refuse(Reason::Bound);
-            return TotalRead { next, total };
-        }
         let a = after.at;
         let e = stretch_end(s, a, count);
         let read = read_table(&s[a..e], kind, count, kept, times, total);
@@ -212,75 +185,84 @@ fn read_tables(s: &[u8], start: Cursor, k: u8, kept: &mut [u32], times: &mut [u8
     TotalRead { next, total }
 }
 
-// Header, k and the tables.
-fn read_rows(s: &[u8], g: Graph, kept: &mut [u32], times: &mut [u8]) -> TotalRead
-    requires { ⌜ gatheredIn (now kept) (now times) 0 ≡ none ⌝ }
-    ensures { λ r. ⌜ Answers (r .next) (gatheredIn (now (kept .exit)) (now (times .exit)) (r .total)) (mapped (added none) (rowsFile elementLimit g (now (s .entry)) 0)) ⌝ }
+// Header and k, which is the graph's.
+fn read_head(s: &[u8], k: u8) -> Field
+    ensures { λ r. ⌜ readOf r ≡ head k (now (s .entry)) 0 ⌝ }
 {
-    let start = Cursor { at: 0 };
-    let next = start.header(s, b'E', b'D', b'G');
-    let Field::Got(_, first) = next else {
+    let headed = Cursor::start().header(s, b'E', b'D', b'G', 1);
+    let Field::Got(_, first) = headed else {
+        return headed;
+    };
+    let read = first.byte(s);
+    let Field::Got(n, _) = read else {
+        return read;
+    };
+    first.judged(read, n == k as u16, Reason::Bound)
+}
+
+// Header, k and the tables.
+fn read_rows(s: &[u8], k: u8, kept: &mut [u32], times: &mut [u8]) -> TotalRead
+    requires { ⌜ gatheredIn (now kept) (now times) 0 ≡ none ⌝ }
+    ensures { λ r. ⌜ Answers (r .next) (gatheredIn (now (kept .exit)) (now (times .exit)) (r .total)) (mapped (added none) (rowsFile elementLimit k (now (s .entry)) 0)) ⌝ }
+{
+    let next = read_head(s, k);
+    let Field::Got(_, after) = next else {
         return TotalRead { next, total: 0 };
     };
-    let next = first.byte(s);
-    let Field::Got(k, after) = next else {
-        return TotalRead { next, total: 0 };
-    };
-    let types = g.k;
-    if wide(k) != place(types) {
-        let next = fields::refuse(Reason::Bound);
-        return TotalRead { next, total: 0 };
-    }
-    let read = read_tables(s, after, types, kept, times);
+    let read = read_tables(s, after, k, kept, times);
     let next = read.next;
-    let Field::Got(_, _) = next else {
+    let Field::Got(_, last) = next else {
         return read;
     };
     let total = read.total;
-    if total == 0 {
-        let next = fields::refuse(Reason::Bound);
-        return TotalRead { next, total };
-    }
-    read
+    let next = last.judged(next, 1 <= total, Reason::Bound);
+    TotalRead { next, total }
 }
 
-// Whether v is met on the way up from w.
-fn is_ancestor(kept: &[u32], total: usize, v: u8, w: u8) -> bool
-    requires { ⌜ Climbable (documentIn (now kept) total) × (w ≤ total) ⌝ }
-    ensures { λ r. ⌜ r ≡ below (view (elementsIn (documentIn (now (kept .entry)) total))) v w ⌝ }
+// Whether each number from 1 to the total came once.
+fn each_once(times: &[u8], total: usize) -> bool
+    requires { ⌜ total ≤ length (now times) ⌝ }
+    ensures { λ r. ⌜ r ≡ ones total (λ i. getD (now (times .entry)) i 0) ⌝ }
+{
+    let mut i: usize = 0;
+    while i < total {
+        if times[i] != 1 {
+            return false;
+        }
+        i += 1;
+    }
+    true
+}
+
+// Whether v is an element and is met on the way up from w, which may be v.
+fn is_at_or_above(kept: &[u32], total: usize, v: u8, w: u8) -> bool
+    requires { ⌜ Climbable (now kept) total × (w ≤ total) ⌝ }
+    ensures { λ r. ⌜ r ≡ ltb 0 v && (eqb v w || below (view (keptIn (now (kept .entry)) total)) v w) ⌝ }
 {
     let mut node = w;
     while node > 0 {
-        let parent = node_at(kept, total, node).parent;
-        if parent == v {
+        if v == node {
             return true;
         }
-        node = parent;
+        node = node_at(kept, total, node).parent;
     }
     false
 }
 
 fn keeps_parent_rule(kept: &[u32], total: usize, i: u8) -> bool
-    requires { ⌜ Climbable (documentIn (now kept) total) × (1 ≤ i) × (i ≤ total) ⌝ }
-    ensures { λ r. ⌜ r ≡ parentRule (view (elementsIn (documentIn (now (kept .entry)) total))) i ⌝ }
+    requires { ⌜ Climbable (now kept) total × (1 ≤ i) × (i ≤ total) ⌝ }
+    ensures { λ r. ⌜ r ≡ parentRule (view (keptIn (now (kept .entry)) total)) i ⌝ }
 {
     let parent = node_at(kept, total, i).parent;
     if i == 1 {
         return parent == 0;
     }
-    if parent == 0 {
-        return false;
-    }
-    let before = i - 1;
-    if parent == before {
-        return true;
-    }
-    is_ancestor(kept, total, parent, before)
+    is_at_or_above(kept, total, parent, i - 1)
 }
 
 fn keeps_edge_rule(g: Graph, kept: &[u32], total: usize, i: u8) -> bool
-    requires { ⌜ Climbable (documentIn (now kept) total) ⌝ }
-    ensures { λ r. ⌜ r ≡ edgeRule g (view (elementsIn (documentIn (now (kept .entry)) total))) i ⌝ }
+    requires { ⌜ Climbable (now kept) total ⌝ }
+    ensures { λ r. ⌜ r ≡ edgeRule g (view (keptIn (now (kept .entry)) total)) i ⌝ }
 {
     let element = node_at(kept, total, i);
     let parent = node_at(kept, total, element.parent);
@@ -289,24 +271,24 @@ fn keeps_edge_rule(g: Graph, kept: &[u32], total: usize, i: u8) -> bool
 
 // The file has ended: nothing is read any more, and the cursor stays.
 fn judge_element(g: Graph, kept: &[u32], total: usize, i: u8, end: Cursor) -> Field
-    requires { ⌜ Climbable (documentIn (now kept) total) × (1 ≤ i) × (i ≤ total) ⌝ }
-    ensures { λ r. ⌜ readOf r ≡ passed (elementJudged g (elementsIn (documentIn (now (kept .entry)) total)) i [] (end .at)) ⌝ }
+    requires { ⌜ Climbable (now kept) total × (1 ≤ i) × (i ≤ total) ⌝ }
+    ensures { λ r. ⌜ readOf r ≡ passed (elementJudged g (keptIn (now (kept .entry)) total) i [] (end .at)) ⌝ }
 {
     if !keeps_parent_rule(kept, total, i) {
-        return fields::refuse(Reason::Number);
+        return end.refuse(Reason::Number);
     }
     if !keeps_edge_rule(g, kept, total, i) {
-        return fields::refuse(Reason::Edge);
+        return end.refuse(Reason::Edge);
     }
     Field::Got(0, end)
 }
 
 fn judge_elements(g: Graph, kept: &[u32], total: usize, end: Cursor) -> Field
-    requires { ⌜ Climbable (documentIn (now kept) total) ⌝ }
-    ensures { λ r. ⌜ readOf r ≡ passed (elementsJudged g (elementsIn (documentIn (now (kept .entry)) total)) 1 total [] (end .at)) ⌝ }
+    requires { ⌜ Climbable (now kept) total ⌝ }
+    ensures { λ r. ⌜ readOf r ≡ passed (elementsJudged g (keptIn (now (kept .entry)) total) 1 total [] (end .at)) ⌝ }
 {
     let mut i: u8 = 1;
-    while place(i) <= total {
+    while u8_to_usize(i) <= total {
         let judged = judge_element(g, kept, total, i, end);
         let Field::Got(_, _) = judged else {
             return judged;
@@ -316,31 +298,31 @@ fn judge_elements(g: Graph, kept: &[u32], total: usize, end: Cursor) -> Field
     Field::Got(0, end)
 }
 
-// The rows are kept in two arrays that are lent to the functions above: handed on by value, each call would copy them.
-pub fn read(s: &[u8], g: Graph) -> DocumentRead
-    ensures { λ r. ⌜ r ≡ documentRead (tablesFile elementLimit g (now (s .entry)) 0) ⌝ }
+// Reads the elements into places that are lent for them.
+pub fn read(s: &[u8], g: Graph, kept: &mut [u32]) -> ElementsRead
+    requires { ⌜ now kept ≡ blankPlaces elementLimit ⌝ }
+    ensures { λ r. ⌜ Keeps (tablesFile elementLimit g (now (s .entry)) 0) (now (kept .exit)) r ⌝ }
 {
-    let mut kept = [BLANK; 127];
-    let mut times: [u8; 127] = [0; 127];
-    let read = read_rows(s, g, &mut kept, &mut times);
+    let mut times: [u8; SMALL.elements] = [0; SMALL.elements];
+    let read = read_rows(s, g.k, kept, &mut times);
     let next = read.next;
-    let Field::Got(_, end) = next else {
+    let Field::Got(_, last) = next else {
         return turned_away(next);
     };
-    let ended = end.end(s);
-    let Field::Got(_, _) = ended else {
+    let ended = last.end(s);
+    let Field::Got(_, end) = ended else {
         return turned_away(ended);
     };
     let total = read.total;
     if !each_once(&times, total) {
-        return turned_away(fields::refuse(Reason::Number));
+        return turned_away(end.refuse(Reason::Number));
     }
-    let judged = judge_elements(g, &kept, total, end);
+    let judged = judge_elements(g, kept, total, end);
     let Field::Got(_, _) = judged else {
         return turned_away(judged);
     };
-    DocumentRead {
+    ElementsRead {
         outcome: Outcome::Accepted,
-        document: document_in(&kept, total),
+        count: total,
     }
 }

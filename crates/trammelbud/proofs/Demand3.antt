@@ -17,7 +17,7 @@ use Rattle.meaning.specs.Queries.{XPath}
 use Rattle.meaning.proofs.Theorems.{announcements-are-sound, nothing-announced-nothing-selected}
 use Rattle.fields.specs.Read.{Read, got, refused, bind}
 use Rattle.fields.specs.Write.{Bytes}
-use Rattle.program.specs.Rel.{programFile}
+use Rattle.rel.specs.Rel.{programFile}
 use Rattle.announce.specs.Check.{announcement, checked, checkOf}
 use Rattle.announce.proofs.Answers.{check-shows}
 use Rattle.writing.specs.Lent.{fileIn}

@@ -16,9 +16,9 @@ use Rattle.meaning.specs.Documents.{documentNode}
 use Rattle.meaning.proofs.Tests.{and-right}
 use Rattle.fields.specs.Read.{got, judge, byte, header, end}
 use Rattle.fields.proofs.Formats.{bind-out, judge-out}
-use Rattle.tables.specs.Edg.{rowRead, rowsRead, tablesRead, placed, elementsOf, eachOnce, elementsJudged, rowsFile, whole, tablesFile}
-use Rattle.tables.specs.declared.Row.{Row}
-use Rattle.program.specs.Rel.{judged, stepRead, stepsRead, program, programFile}
+use Rattle.edg.specs.Edg.{rowRead, rowsRead, tablesRead, placed, elementsOf, eachOnce, elementsJudged, rowsFile, whole, tablesFile}
+use Rattle.edg.specs.declared.Row.{Row}
+use Rattle.rel.specs.Rel.{judged, stepRead, stepsRead, program, programFile}
 
 -- two readings that are one gave one value
 same-got : {A : Type 0} {a b : A} {m n : ℕ} → got a m ≡ got b n → a ≡ b

@@ -7,14 +7,14 @@ use Rattle.fields.specs.Read.{Reader, got}
 use Rattle.fields.specs.Write.{Bytes}
 use Rattle.graph.specs.Gra.{graphFile, graphBytes}
 use Rattle.graph.proofs.File.{graph-read}
-use Rattle.document.specs.Tre.{documentFile, documentBytes}
-use Rattle.document.proofs.File.{document-read}
-use Rattle.tables.specs.Edg.{tablesFile, tablesBytes}
-use Rattle.tables.proofs.File.{tables-read}
+use Rattle.tre.specs.Tre.{documentFile, documentBytes}
+use Rattle.tre.proofs.File.{document-read}
+use Rattle.edg.specs.Edg.{tablesFile, tablesBytes}
+use Rattle.edg.proofs.File.{tables-read}
 use Rattle.query.specs.Qry.{queryFile, queryBytes}
 use Rattle.query.proofs.File.{query-read}
-use Rattle.program.specs.Rel.{programFile, programBytes}
-use Rattle.program.proofs.File.{program-read}
+use Rattle.rel.specs.Rel.{programFile, programBytes}
+use Rattle.rel.proofs.File.{program-read}
 
 -- a reader that gives one value for one file alone
 abbrev pub OneFile : {A : Type 0} → Reader A → Type 0

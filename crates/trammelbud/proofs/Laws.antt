@@ -25,11 +25,11 @@ use Rattle.program.specs.declared.ProgramRead.{ProgramRead}
 use Rattle.graph.specs.Gra.{graphFile}
 use Rattle.graph.specs.Answers.{graphRead, noGraph}
 use Rattle.graph.specs.declared.GraphRead.{GraphRead}
-use Rattle.document.specs.Tre.{documentFile}
-use Rattle.tables.specs.Edg.{tablesFile}
-use Rattle.program.specs.Rel.{programFile}
+use Rattle.tre.specs.Tre.{documentFile}
+use Rattle.edg.specs.Edg.{tablesFile}
+use Rattle.rel.specs.Rel.{programFile}
 use Rattle.trammelbud.proofs.Few.{few-placed, few-steps}
-use Rattle.document.proofs.Bounds.{few-elements}
+use Rattle.tre.proofs.Bounds.{few-elements}
 use Rattle.writing.specs.Lent.{accepted, turnedAway}
 use Rattle.trammelbud.specs.Calls.{answerOf, counted, readGraph, readUnder}
 

@@ -10,10 +10,10 @@ use Rattle.meaning.specs.Documents.{Accepted}
 use Rattle.meaning.specs.Queries.{XPath, LegalPath}
 use Rattle.meaning.specs.Operations.{LegalProgram}
 use Rattle.graph.proofs.File.{graph-read}
-use Rattle.document.proofs.File.{document-read}
-use Rattle.tables.proofs.File.{tables-read}
+use Rattle.tre.proofs.File.{document-read}
+use Rattle.edg.proofs.File.{tables-read}
 use Rattle.query.proofs.File.{query-read}
-use Rattle.program.proofs.File.{program-read}
+use Rattle.rel.proofs.File.{program-read}
 use Rattle.trammelbud.specs.Demands.{OfGraph, OfDocument, OfTables, OfQuery, OfProgram}
 
 pub graph-legal : {gra : List ℕ} {g : Graph} → OfGraph gra g → LegalGraph g

@@ -38,15 +38,15 @@ use Rattle.graph.specs.declared.GraphRead.{GraphRead}
 use Rattle.graph.specs.Gra.{graphFile}
 use Rattle.graph.specs.Answers.{graphRead}
 use Rattle.graph.proofs.Held.{graph-turned, graph-held, graph-legal}
-use Rattle.tables.specs.Edg.{tablesFile}
-use Rattle.tables.proofs.File.{tables-read}
+use Rattle.edg.specs.Edg.{tablesFile}
+use Rattle.edg.proofs.File.{tables-read}
 use Rattle.query.specs.Qry.{queryFile}
 use Rattle.query.proofs.File.{query-read}
 use Rattle.program.specs.declared.ProgramRead.{ProgramRead}
 use Rattle.program.specs.Answers.{programRead}
-use Rattle.program.specs.Rel.{programFile, programBytes}
-use Rattle.program.proofs.File.{program-written}
-use Rattle.program.proofs.Encoded.{program-length}
+use Rattle.rel.specs.Rel.{programFile, programBytes}
+use Rattle.rel.proofs.File.{program-written}
+use Rattle.rel.proofs.Encoded.{program-length}
 use Rattle.writing.specs.Lent.{Lent, accepted, turnedAway, over, lent, Leaves}
 use Rattle.writing.proofs.Puts.{over-front}
 use Rattle.writing.proofs.Stored.{stored-there, lent-fits}

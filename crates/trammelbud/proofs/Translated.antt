@@ -13,8 +13,8 @@ use Rattle.meaning.specs.Limits.{stepLimit}
 use Rattle.meaning.specs.Queries.{XPath}
 use Rattle.meaning.specs.Translation.{translated, stepCount}
 use Rattle.fields.specs.Read.{pick}
-use Rattle.program.specs.Rel.{programBytes}
-use Rattle.program.proofs.Encoded.{program-bytes}
+use Rattle.rel.specs.Rel.{programBytes}
+use Rattle.rel.proofs.Encoded.{program-bytes}
 use Rattle.writing.specs.Lent.{accepted, turnedAway, over, untouched, stored, lent, fileIn}
 use Rattle.writing.proofs.Stored.{stored-there, stored-file}
 use Rattle.translator.proofs.Checked.{file-length, translated-checked}

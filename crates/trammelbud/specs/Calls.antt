@@ -12,10 +12,10 @@ use Rattle.meaning.specs.Queries.{XPath, selected}
 use Rattle.fields.specs.Read.{Read, got, refused, bind}
 use Rattle.writing.specs.Lent.{accepted, turnedAway}
 use Rattle.graph.specs.Gra.{graphFile}
-use Rattle.document.specs.Tre.{documentFile}
-use Rattle.tables.specs.Edg.{tablesFile}
+use Rattle.tre.specs.Tre.{documentFile}
+use Rattle.edg.specs.Edg.{tablesFile}
 use Rattle.query.specs.Qry.{queryFile}
-use Rattle.program.specs.Rel.{programFile}
+use Rattle.rel.specs.Rel.{programFile}
 use Rattle.runner.specs.Run.{Ran, untouched, leaves}
 use Rattle.translator.specs.Translate.{programOf}
 use Rattle.text.specs.Listing.{listing}

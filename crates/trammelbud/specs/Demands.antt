@@ -19,10 +19,10 @@ use Rattle.meaning.specs.Translation.{translated, stepCount}
 use Rattle.fields.specs.Read.{got, pick}
 use Rattle.fields.specs.Write.{Bytes}
 use Rattle.graph.specs.Gra.{graphFile}
-use Rattle.document.specs.Tre.{documentFile}
-use Rattle.tables.specs.Edg.{tablesFile}
+use Rattle.tre.specs.Tre.{documentFile}
+use Rattle.edg.specs.Edg.{tablesFile}
 use Rattle.query.specs.Qry.{queryFile}
-use Rattle.program.specs.Rel.{programFile}
+use Rattle.rel.specs.Rel.{programFile}
 use Rattle.writing.specs.Lent.{Lent, accepted, turnedAway, fileIn}
 use Rattle.convert.specs.Convert.{shredded, rebuilt}
 use Rattle.convert.specs.RoundTrips.{tablesLength, documentLength, DocumentReturns, TablesReturn}

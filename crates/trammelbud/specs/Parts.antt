@@ -13,7 +13,7 @@ use Rattle.meaning.specs.Documents.{Accepted}
 use Rattle.meaning.specs.Records.{documentOf, elementsIn, programOf, operationsIn}
 use Rattle.meaning.specs.Operations.{answer}
 use Rattle.fields.specs.Read.{Read, got, refused}
-use Rattle.program.specs.Rel.{programBytes}
+use Rattle.rel.specs.Rel.{programBytes}
 use Rattle.writing.specs.Lent.{turnedAway, over}
 use Rattle.runner.specs.Layout.{roomBytes}
 use Rattle.runner.specs.Ready.{shown, Ready}

@@ -32,18 +32,17 @@ use Rattle.query.specs.declared.QueryRead.{QueryRead}
 use Rattle.query.specs.Qry.{path, queryFile, pathBytes, queryBytes}
 use Rattle.query.specs.Answers.{queryRead}
 use Rattle.query.proofs.File.{query-read}
-use Rattle.query.proofs.Written.{path-written}
-use Rattle.program.specs.Rel.{stepsBytes, programBytes}
+use Rattle.rel.specs.Rel.{stepsBytes, programBytes}
 use Rattle.writing.specs.Lent.{Leaves, accepted, turnedAway, over, lent}
 use Rattle.writing.specs.Put.{Put}
 use Rattle.writing.proofs.Puts.{over-nothing, over-more, put-then, put-length}
 use Rattle.writing.proofs.Stored.{stored-none, stored-there}
-use Rattle.translator.specs.declared.steps.Place.{Place}
+use Rattle.steps.specs.declared.Place.{Place}
 use Rattle.translator.specs.Translate.{programOf, translatedQuery, translatedUnder, translation}
 use Rattle.translator.specs.Count.{stepsIn, Counted}
-use Rattle.translator.specs.Descent.{start, Due, Done}
+use Rattle.descent.specs.Dues.{start, Due, Done}
 use Rattle.translator.specs.Ready.{Accepts, Ready}
-use Rattle.translator.proofs.Counting.{path-steps, path-short}
+use Rattle.translator.proofs.Counting.{path-steps}
 use Rattle.translator.proofs.Checked.{file-length, translated-stored}
 
 module _ (gra qry out : List ℕ) {x : GraphRead} (p : x ≡ graphRead (graphFile gra 0)) where
@@ -94,8 +93,8 @@ module _ {g : Graph} {s : List ℕ} (A : Accepts g s) (bytes : (i : ℕ) → Fit
         translated-stored g s out (A .reads) (omega (arith, c .all l, count-is))
         ∙ stored-none (programBytes (translated g p)) out (omega (arith, c .all l, count-is, file-length g p)) ∙ rw e
 
-  pub ready : {n m : ℕ} → Counted s n → n ≤ stepLimit → 6 + 3 * n ≤ m → Ready g s n m
-  ready c l f = record { accepted = A; count = c .all l ∙ count-is; few = l; fits = f }
+  pub ready : {n k m : ℕ} → k ≡ n → Counted s n → n ≤ stepLimit → 6 + 3 * n ≤ m → Ready g s k m
+  ready e c l f = rw e (record { accepted = A; count = c .all l ∙ count-is; few = l; fits = f; short = c .short l })
 
 module _ {g : Graph} {s old x y : List ℕ} {n i j : ℕ} (R : Ready g s n (length old)) (bytes : (i : ℕ) → Fits w8 (getD s i 0))
     (p : Put 0 (headerOf 0x52 0x45 0x4C) old x i) (q : Put i (byteOf n) x y j) where
@@ -105,29 +104,24 @@ module _ {g : Graph} {s old x y : List ℕ} {n i j : ℕ} (R : Ready g s n (leng
   as-long : length y ≡ length old
   as-long = put-length (omega (arith, R .fits)) headed
 
-  pub start-due : {m : ℕ} → m ≡ length y → Due path g s m start
-  unfolding stepCount queryNodes queryBytes
+  pub start-due : {m : ℕ} → m ≡ length y → Due g s m start
+  unfolding stepCount queryBytes
   start-due l =
       let A = R .accepted in
-      let (legal, nodes, same) = legal-query A bytes in
-      let behind : drop 5 s ≡ pathBytes (A .query) ++ [] = ap (drop 5) same ∙ sym (append-nil (pathBytes (A .query))) in
+      let (legal, _, same) = legal-query A bytes in
       record {
         graph = A .graph;
-        bytes = λ i. bytes i .fits;
-        short = omega (arith, ap length same, path-short (A .query));
+        short = omega (arith, R .short, R .few);
         kinds = omega arith;
+        sort = path;
         tree = A .query;
-        next = 5 + length (pathBytes (A .query));
-        stands = record {
-          depth = queryLimit;
-          allowed = queryLimit;
-          left = A .left;
-          reads = path-written (g .k) (A .query) legal .reads-back queryLimit queryLimit (A .left) (omega arith) (omega arith) .reads s 5 [] behind;
-        };
+        legal = legal;
+        rest = [];
+        stands = ap (drop 5) same ∙ sym (append-nil (pathBytes (A .query)));
         enough = record { few = omega (arith, R .count, R .few); fits = omega (arith, R .count, R .fits, as-long) };
       }
 
-  module _ {new : List ℕ} {to : Place} (D : Done path g s y new start to) where
+  module _ {new : List ℕ} {to : Place} (D : Done g s y new start to) where
     -- the steps stand behind the header and their number
     file-there : new ≡ over 0 (programBytes (translated g (R .accepted .query))) old
     unfolding start-due translated stepsBytes programBytes

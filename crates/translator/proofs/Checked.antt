@@ -18,9 +18,9 @@ use Rattle.graph.specs.Gra.{graphFile}
 use Rattle.graph.proofs.File.{graph-read}
 use Rattle.query.specs.Qry.{queryFile}
 use Rattle.query.proofs.File.{query-read}
-use Rattle.program.specs.Rel.{programFile, programBytes}
-use Rattle.program.proofs.File.{program-written}
-use Rattle.program.proofs.Encoded.{program-length}
+use Rattle.rel.specs.Rel.{programFile, programBytes}
+use Rattle.rel.proofs.File.{program-written}
+use Rattle.rel.proofs.Encoded.{program-length}
 use Rattle.writing.specs.Lent.{stored, lent}
 use Rattle.translator.specs.Translate.{programOf, translatedQuery, translatedUnder}
 

@@ -5,7 +5,7 @@ use mathlib.Core.Bool.{Bool, true, false}
 use mathlib.Core.List.{List, [], _∷_, _++_, append-assoc}
 use native.Mathlib.Omega.{arith}
 use lib.Dec.{eqb}
-use lib.ListN.{length, getD, drop, length-append, drop-of-length-le}
+use lib.ListN.{length, getD, drop, drop-of-length-le}
 use lib.Seq.{drop-nil, drop-cons, drop-drop}
 use mir.Syntax.{w64}
 use mir.Val.{Fits}
@@ -70,13 +70,13 @@ upto-none s = record { sum = omega arith; near = omega arith; few = omega arith 
 
 module _ {s : List ℕ} {at steps : ℕ} (u : Upto s at steps) where
   pub upto-many : stepLimit < steps → Counted s steps
-  upto-many l = record { most = omega (arith, u .sum); all = λ m. absurd (omega arith) }
+  upto-many l = record { most = omega (arith, u .sum); all = λ m. absurd (omega arith); short = λ m. absurd (omega arith) }
 
   pub upto-all : length s ≤ at → Counted s steps
   unfolding stepsIn
   upto-all l =
       let e : stepsIn 0 (drop at s) ≡ 0 = ap (stepsIn 0) (drop-of-length-le s l) in
-      record { most = omega (arith, u .sum); all = λ m. omega (arith, u .sum) }
+      record { most = omega (arith, u .sum); all = λ m. omega (arith, u .sum); short = λ m. omega (arith, u .near) }
 
   module _ {f : ℕ} (e : f ≡ fieldsOf (getD s at 0)) where
     pub at-fits : steps ≤ stepLimit → Fits w64 (at + (1 + f))
@@ -137,23 +137,3 @@ mutual
   qualifier-steps (isNot q) s = omega (arith, qualifier-steps q s)
   qualifier-steps (both q r) s = omega (arith, two-parts (qualifierCount 5 1 q) (qualifierCount 5 1 r) (qualifierBytes q) (qualifierBytes r) s (qualifier-steps q _) (qualifier-steps r s))
   qualifier-steps (either q r) s = omega (arith, two-parts (qualifierCount 5 1 q) (qualifierCount 5 1 r) (qualifierBytes q) (qualifierBytes r) s (qualifier-steps q _) (qualifier-steps r s))
-
--- A node has three bytes at most.
-mutual
-  unfolding pathBytes qualifierBytes pathCount qualifierCount
-
-  pub path-short : (p : XPath) → length (pathBytes p) ≤ 3 * pathCount 0 0 p
-  path-short self = omega arith
-  path-short (child t) = omega arith
-  path-short anyChild = omega arith
-  path-short (slash p q) = omega (arith, length-append (pathBytes p) (pathBytes q), path-short p, path-short q)
-  path-short (slashes p q) = omega (arith, length-append (pathBytes p) (pathBytes q), path-short p, path-short q)
-  path-short (union p q) = omega (arith, length-append (pathBytes p) (pathBytes q), path-short p, path-short q)
-  path-short (filter p q) = omega (arith, length-append (pathBytes p) (qualifierBytes q), path-short p, qualifier-short q)
-
-  qualifier-short : (q : Qualifier) → length (qualifierBytes q) ≤ 3 * qualifierCount 0 0 q
-  qualifier-short (reached p) = omega (arith, path-short p)
-  qualifier-short (textIs c) = omega arith
-  qualifier-short (isNot q) = omega (arith, qualifier-short q)
-  qualifier-short (both q r) = omega (arith, length-append (qualifierBytes q) (qualifierBytes r), qualifier-short q, qualifier-short r)
-  qualifier-short (either q r) = omega (arith, length-append (qualifierBytes q) (qualifierBytes r), qualifier-short q, qualifier-short r)

@@ -1,9 +1,9 @@
 -- Counting the steps of a query over its bytes, node by node.
-use Prim.Native.Nat.{ℕ, zero, suc, _+_, _≤_}
+use Prim.Native.Nat.{ℕ, zero, suc, _+_, _*_, _≤_}
 use mathlib.Core.Path.{_≡_}
 use mathlib.Core.List.{List, [], _∷_}
 use lib.Dec.{eqb}
-use lib.ListN.{drop}
+use lib.ListN.{length, drop}
 use Rattle.meaning.specs.Limits.{stepLimit}
 use Rattle.fields.specs.Read.{pick}
 
@@ -21,7 +21,8 @@ stepsIn n [] = 0
 stepsIn zero (c ∷ s) = ownSteps c + stepsIn (fieldsOf c) s
 stepsIn (suc n) (c ∷ s) = stepsIn n s
 
--- n is the number of steps behind the header, unless there are too many; then it is too many as well
+-- n is the number of steps behind the header, unless there are too many; then it is too many as well. A step has three bytes at most
 pub record Counted (s : List ℕ) (n : ℕ) : Type 0 where
   pub most : n ≤ stepsIn 0 (drop 5 s)
   pub all : n ≤ stepLimit → n ≡ stepsIn 0 (drop 5 s)
+  pub short : n ≤ stepLimit → length s ≤ 5 + 3 * n

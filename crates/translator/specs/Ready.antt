@@ -2,6 +2,7 @@
 use Prim.Native.Nat.{ℕ, _+_, _*_, _≤_}
 use mathlib.Core.Path.{_≡_}
 use mathlib.Core.List.{List}
+use lib.ListN.{length}
 use Rattle.meaning.specs.declared.Graph.{Graph}
 use Rattle.meaning.specs.Limits.{stepLimit}
 use Rattle.meaning.specs.Graphs.{LegalGraph}
@@ -24,3 +25,4 @@ pub record Ready (g : Graph) (s : List ℕ) (n room : ℕ) : Type 0 where
   pub count : n ≡ stepCount (accepted .query)
   pub few : n ≤ stepLimit
   pub fits : 6 + 3 * n ≤ room
+  pub short : length s ≤ 5 + 3 * n

@@ -11,7 +11,7 @@ use Rattle.meaning.specs.Translation.{translated, stepCount}
 use Rattle.fields.specs.Read.{Read, got, refused, bind, pick}
 use Rattle.graph.specs.Gra.{graphFile}
 use Rattle.query.specs.Qry.{queryFile}
-use Rattle.program.specs.Rel.{programBytes}
+use Rattle.rel.specs.Rel.{programBytes}
 use Rattle.writing.specs.Lent.{Lent, lent}
 
 -- a query's program, where it has at most 24 steps

@@ -1,8 +1,6 @@
 // The translator: a query's program, written as a file. The graph is judged, then the query; 11 comes next, the room last,
 // and no byte is written before all of that is known.
 mod count;
-mod descent;
-mod steps;
 
 ghost use mathlib.Core.Path.{_≡_};
 ghost use lib.ListN.{length};
@@ -42,7 +40,7 @@ fn judged(g: Graph, qry: &[u8], out: &mut [u8]) -> Answer
         });
     }
     if 6 + 3 * steps <= out.len() {
-        return written(g, qry, steps as u8, out);
+        return written(g, qry, numbers::usize_to_u8(steps), out);
     }
     writing::turned_away(Refusal {
         reason: Reason::Room,

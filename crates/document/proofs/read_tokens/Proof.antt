@@ -2,7 +2,7 @@
 use Prim.Native.Nat.{_-_}
 use lib.ListN.{length}
 use Rattle.meaning.specs.Limits.{elementLimit}
-use Rattle.document.specs.Tre.{nothingOpen, tokens}
+use Rattle.tre.specs.Tre.{nothingOpen, tokens}
 use Rattle.document.proofs.Reading.{Reaches, token-laws}
 use Rattle.document.proofs.read_tokens.Statement.{statement}
 use Rattle.document.proofs.read_tokens.Tie as tie
@@ -18,16 +18,6 @@ abbrev μ-loop : tie.MeasureT-loop
 pub read-tokens-spec : {M : Type 1} → statement M
 read-tokens-spec =
     tie.close
-    (tie.spec
-    Inv-loop
-    μ-loop
-    (λ c. search token-laws)
-    (λ c κs. search token-laws)
-    (λ c. search token-laws)
-    (λ c. search token-laws)
-    (λ c. search token-laws)
-    (λ c. search token-laws)
-    (λ c. search token-laws)
-    (λ c. search token-laws)
-    (λ c. search token-laws)
+    (tie.spec Inv-loop μ-loop (λ c. search token-laws) (λ c κs. search token-laws) (λ c. search token-laws) (λ c. search token-laws)
+    (λ c. search token-laws) (λ c. search token-laws) (λ c. search token-laws) (λ c. search token-laws) (λ c. search token-laws)
     (λ c. search token-laws))

@@ -1,6 +1,6 @@
 -- Before turn i the masks of the types below i are in place, and what is left of the reading fills the rest.
-use Rattle.graph.proofs.MaskReading.{Sofar, laws}
 use Prim.Native.Nat.{_-_}
+use Rattle.graph.proofs.MaskReading.{Sofar, laws}
 use Rattle.graph.proofs.masks.Statement.{statement}
 use Rattle.graph.proofs.masks.Tie as tie
 
@@ -16,19 +16,5 @@ masks-spec =
     (tie.spec
     Inv-loop
     μ-loop
-    (λ c. search laws)
-    (λ c κs. search laws)
-    (λ c. search laws)
-    (λ c. search laws)
-    (λ c κs. search laws)
-    (λ c. search laws)
-    (λ c κs. search laws)
-    (λ c κs. search laws)
-    (λ c κs. search laws)
-    (λ c. search laws)
-    (λ c. search laws)
-    (λ c. search laws)
-    (λ c. search laws)
-    (λ c. search laws)
-    (λ c. search laws)
-    (λ c. search laws))
+    (λ c. search laws) (λ c κs. search laws) (λ c. search laws) (λ c. search laws) (λ c. search laws) (λ c. search laws)
+    (λ c. search laws) (λ c. search laws) (λ c. search laws) (λ c. search laws) (λ c. search laws))

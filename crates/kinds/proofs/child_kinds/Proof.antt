@@ -6,11 +6,4 @@ use Rattle.kinds.proofs.child_kinds.Tie as tie
 pub child-kinds-spec : {M : Type 1} → statement M
 child-kinds-spec =
     tie.close
-    (tie.spec
-    (λ c κs. search laws)
-    (λ c κs. search laws)
-    (λ c. search laws)
-    (λ c. search laws)
-    (λ c. search laws)
-    (λ c κs. search laws)
-    (λ c. search laws))
+    (tie.spec (λ c κs. search laws) (λ c κs. search laws) (λ c. search laws) (λ c. search laws) (λ c. search laws) (λ c κs. search laws) (λ c. search laws))

@@ -6,14 +6,4 @@ use Rattle.kinds.proofs.is_child.Tie as tie
 pub is-child-spec : {M : Type 1} → statement M
 is-child-spec =
     tie.close
-    (tie.spec
-    (λ c κs. search laws)
-    (λ c κs. search laws)
-    (λ c. search laws)
-    (λ c. search laws)
-    (λ c. search laws)
-    (λ c. search laws)
-    (λ c. search laws)
-    (λ c κs. search laws)
-    (λ c κs. search laws)
-    (λ c. search laws))
+    (tie.spec (λ c. search laws) (λ c. search laws) (λ c. search laws) (λ c. search laws) (λ c. search laws) (λ c κs. search laws) (λ c κs. search laws) (λ c. search laws))

@@ -7,10 +7,10 @@ use Rattle.kinds.proofs.reachable.Statement.{statement}
 use Rattle.kinds.proofs.reachable.Tie as tie
 
 abbrev Inv-loop : tie.InvT-loop
-Inv-loop g c first reached₀ round₀ reached round = Upto (rounds (childKind g) c) round reached
+Inv-loop g c reached₀ round₀ reached round = Upto (rounds (childKind g) c) round reached
 
 abbrev μ-loop : tie.MeasureT-loop
-μ-loop g c first reached₀ round₀ reached round = kinds - round
+μ-loop g c reached₀ round₀ reached round = kinds - round
 
 pub reachable-spec : {M : Type 1} → statement M
 reachable-spec =
@@ -18,7 +18,6 @@ reachable-spec =
     (tie.spec
     Inv-loop
     μ-loop
-    (λ c κs. search laws)
     (λ c. search laws)
     (λ c κs. search laws)
     (λ c. search laws)

@@ -1,4 +1,4 @@
--- Each arm makes the operation of its code; an operand is below 256, so its low byte is all of it.
+-- Each arm makes the operation of its code.
 use Rattle.program.proofs.Laws.{operation-laws}
 use Rattle.program.proofs.operation.Statement.{statement}
 use Rattle.program.proofs.operation.Tie as tie
@@ -7,14 +7,6 @@ pub operation-spec : {M : Type 1} → statement M
 operation-spec =
     tie.close
     (tie.spec
-    (λ c κs. search operation-laws)
-    (λ c κs. search operation-laws)
-    (λ c. search operation-laws)
-    (λ c. search operation-laws)
-    (λ c. search operation-laws)
-    (λ c. search operation-laws)
-    (λ c. search operation-laws)
-    (λ c. search operation-laws)
-    (λ c. search operation-laws)
-    (λ c. search operation-laws)
+    (λ c κs. search operation-laws) (λ c κs. search operation-laws) (λ c. search operation-laws) (λ c. search operation-laws) (λ c. search operation-laws)
+    (λ c. search operation-laws) (λ c. search operation-laws) (λ c. search operation-laws) (λ c. search operation-laws) (λ c. search operation-laws)
     (λ c. search operation-laws))

@@ -7,17 +7,6 @@ pub read-spec : {M : Type 1} → statement M
 read-spec =
     tie.close
     (tie.spec
-    (λ c κs. search file-laws)
-    (λ c κs. search file-laws)
-    (λ c. search file-laws)
-    (λ c. search file-laws)
-    (λ c κs. search file-laws)
-    (λ c. search file-laws)
-    (λ c κs. search file-laws)
-    (λ c. search file-laws)
-    (λ c. search file-laws)
-    (λ c κs. search file-laws)
-    (λ c. search file-laws)
-    (λ c. search file-laws)
-    (λ c κs. search file-laws)
-    (λ c. search file-laws))
+    (λ c κs. search file-laws) (λ c κs. search file-laws) (λ c. search file-laws) (λ c. search file-laws) (λ c κs. search file-laws)
+    (λ c. search file-laws) (λ c κs. search file-laws) (λ c. search file-laws) (λ c. search file-laws) (λ c κs. search file-laws) (λ c. search file-laws)
+    (λ c. search file-laws) (λ c κs. search file-laws) (λ c. search file-laws))

@@ -7,18 +7,6 @@ pub read-x-spec : {M : Type 1} → statement M
 read-x-spec =
     tie.close
     (tie.spec
-    (λ c. search field-laws)
-    (λ c κs. search field-laws)
-    (λ c. search field-laws)
-    (λ c κs. search field-laws)
-    (λ c. search field-laws)
-    (λ c κs. search field-laws)
-    (λ c. search field-laws)
-    (λ c κs. search field-laws)
-    (λ c. search field-laws)
-    (λ c κs. search field-laws)
-    (λ c. search field-laws)
-    (λ c. search field-laws)
-    (λ c. search field-laws)
-    (λ c. search field-laws)
-    (λ c. search field-laws))
+    (λ c. search field-laws) (λ c κs. search field-laws) (λ c. search field-laws) (λ c κs. search field-laws) (λ c. search field-laws)
+    (λ c κs. search field-laws) (λ c. search field-laws) (λ c κs. search field-laws) (λ c. search field-laws) (λ c κs. search field-laws)
+    (λ c. search field-laws) (λ c. search field-laws) (λ c. search field-laws) (λ c. search field-laws) (λ c. search field-laws))

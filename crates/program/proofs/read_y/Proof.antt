@@ -7,16 +7,6 @@ pub read-y-spec : {M : Type 1} → statement M
 read-y-spec =
     tie.close
     (tie.spec
-    (λ c. search field-laws)
-    (λ c κs. search field-laws)
-    (λ c. search field-laws)
-    (λ c κs. search field-laws)
-    (λ c. search field-laws)
-    (λ c κs. search field-laws)
-    (λ c. search field-laws)
-    (λ c. search field-laws)
-    (λ c. search field-laws)
-    (λ c. search field-laws)
-    (λ c. search field-laws)
-    (λ c. search field-laws)
-    (λ c. search field-laws))
+    (λ c. search field-laws) (λ c κs. search field-laws) (λ c. search field-laws) (λ c κs. search field-laws) (λ c. search field-laws)
+    (λ c κs. search field-laws) (λ c. search field-laws) (λ c. search field-laws) (λ c. search field-laws) (λ c. search field-laws)
+    (λ c. search field-laws) (λ c. search field-laws) (λ c. search field-laws))

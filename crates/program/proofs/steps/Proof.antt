@@ -13,25 +13,7 @@ abbrev μ-loop : tie.MeasureT-loop
 pub steps-spec : {M : Type 1} → statement M
 steps-spec =
     tie.close
-    (tie.spec
-    Inv-loop
-    μ-loop
-    (λ c κs. search loop-laws)
-    (λ c. search loop-laws)
-    (λ c. search loop-laws)
-    (λ c κs. search loop-laws)
-    (λ c. search loop-laws)
-    (λ c. search loop-laws)
-    (λ c κs. search loop-laws)
-    (λ c. search loop-laws)
-    (λ c. search loop-laws)
-    (λ c. search loop-laws)
-    (λ c. search loop-laws)
-    (λ c. search loop-laws)
-    (λ c. search loop-laws)
-    (λ c κs. search loop-laws)
-    (λ c. search loop-laws)
-    (λ c. search loop-laws)
-    (λ c κs. search loop-laws)
-    (λ c. search loop-laws)
-    (λ c. search loop-laws))
+    (tie.spec Inv-loop μ-loop
+    (λ c. search loop-laws) (λ c. search loop-laws) (λ c κs. search loop-laws) (λ c. search loop-laws) (λ c. search loop-laws) (λ c κs. search loop-laws)
+    (λ c. search loop-laws) (λ c. search loop-laws) (λ c. search loop-laws) (λ c. search loop-laws) (λ c. search loop-laws) (λ c. search loop-laws)
+    (λ c κs. search loop-laws) (λ c. search loop-laws) (λ c. search loop-laws) (λ c κs. search loop-laws) (λ c. search loop-laws) (λ c. search loop-laws))

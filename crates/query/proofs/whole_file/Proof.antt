@@ -7,15 +7,5 @@ pub whole-file-spec : {M : Type 1} → statement M
 whole-file-spec =
     tie.close
     (tie.spec
-    (λ c κs. search laws)
-    (λ c κs. search laws)
-    (λ c. search laws)
-    (λ c. search laws)
-    (λ c. search laws)
-    (λ c κs. search laws)
-    (λ c. search laws)
-    (λ c. search laws)
-    (λ c. search laws)
-    (λ c κs. search laws)
-    (λ c κs. search laws)
-    (λ c. search laws))
+    (λ c κs. search laws) (λ c κs. search laws) (λ c. search laws) (λ c. search laws) (λ c. search laws) (λ c κs. search laws)
+    (λ c. search laws) (λ c. search laws) (λ c. search laws) (λ c κs. search laws) (λ c κs. search laws) (λ c. search laws))

@@ -2,14 +2,15 @@
 use Prim.Native.Nat.{_≤_, _-_}
 use mathlib.Core.Path.{_≡_}
 use mathlib.Core.Bool.{true}
-use Rattle.tables.specs.Kept.{ones}
+use lib.ListN.{getD}
+use Rattle.edg.specs.Edg.{ones}
 use Rattle.tables.proofs.Elements.{ones-laws}
 use Rattle.tables.proofs.each_once.Statement.{statement}
 use Rattle.tables.proofs.each_once.Tie as tie
 
 abbrev Inv-loop : tie.InvT-loop
 Inv-loop times total i₀ i =
-    (i ≤ total) × (ones i times ≡ true)
+    (i ≤ total) × (ones i (λ j. getD times j 0) ≡ true)
 
 abbrev μ-loop : tie.MeasureT-loop
 μ-loop times total i₀ i =

@@ -1,17 +1,16 @@
 -- The elements below i keep both rules, and judging the others comes to the same as judging all.
 use Prim.Native.Nat.{suc, _-_}
 use mathlib.Core.List.{[]}
-use Rattle.meaning.specs.Records.{elementsIn}
-use Rattle.fields.specs.Kept.{documentIn}
 use Rattle.fields.specs.Read.{passed}
-use Rattle.tables.specs.Edg.{elementsJudged}
+use Rattle.elements.specs.Kept.{keptIn}
+use Rattle.edg.specs.Edg.{elementsJudged}
 use Rattle.tables.proofs.Elements.{Judging, judging-laws}
 use Rattle.tables.proofs.judge_elements.Statement.{statement}
 use Rattle.tables.proofs.judge_elements.Tie as tie
 
 abbrev Inv-loop : tie.InvT-loop
 Inv-loop g kept total end i₀ i =
-    Judging g (documentIn kept total) (passed (elementsJudged g (elementsIn (documentIn kept total)) 1 total [] (end .at))) (end .at) i
+    Judging g (keptIn kept total) total (passed (elementsJudged g (keptIn kept total) 1 total [] (end .at))) (end .at) i
 
 abbrev μ-loop : tie.MeasureT-loop
 μ-loop g kept total end i₀ i =

@@ -4,5 +4,4 @@ use Rattle.tables.proofs.keeps_edge_rule.Statement.{statement}
 use Rattle.tables.proofs.keeps_edge_rule.Tie as tie
 
 pub keeps-edge-rule-spec : {M : Type 1} → statement M
-keeps-edge-rule-spec =
-    tie.close (tie.spec (λ c κs. search element-laws) (λ c κs. search element-laws) (λ c κs. search element-laws) (λ c. search element-laws))
+keeps-edge-rule-spec = tie.close (tie.spec (λ c κs. search element-laws) (λ c κs. search element-laws) (λ c κs. search element-laws) (λ c. search element-laws))

@@ -1,5 +1,5 @@
 -- Each return is what the file comes to: refused by its rows, by what follows them, by its numbers or by an element, or accepted.
-use Rattle.tables.proofs.Reader.{read-laws}
+use Rattle.tables.proofs.Reader.{read-accepted, read-laws}
 use Rattle.tables.proofs.read.Statement.{statement}
 use Rattle.tables.proofs.read.Tie as tie
 
@@ -8,20 +8,6 @@ read-spec =
     tie.close
     (tie.spec
     (λ c. search read-laws)
-    (λ c. search read-laws)
-    (λ c κs. search read-laws)
-    (λ c. search read-laws)
-    (λ c. search read-laws)
-    (λ c κs. search read-laws)
-    (λ c. search read-laws)
-    (λ c κs. search read-laws)
-    (λ c. search read-laws)
-    (λ c. search read-laws)
-    (λ c κs. search read-laws)
-    (λ c. search read-laws)
-    (λ c. search read-laws)
-    (λ c κs. search read-laws)
-    (λ c κs. search read-laws)
     (λ c κs. search read-laws)
     (λ c. search read-laws)
     (λ c. search read-laws)
@@ -32,4 +18,19 @@ read-spec =
     (λ c. search read-laws)
     (λ c. search read-laws)
     (λ c κs. search read-laws)
-    (λ c. search read-laws))
+    (λ c. search read-laws)
+    (λ c. search read-laws)
+    (λ c. search read-laws)
+    (λ c κs. search read-laws)
+    (λ c κs. search read-laws)
+    (λ c κs. search read-laws)
+    (λ c. search read-laws)
+    (λ c. search read-laws)
+    (λ c κs. search read-laws)
+    (λ c. search read-laws)
+    (λ c. search read-laws)
+    (λ c κs. search read-laws)
+    (λ c. search read-laws)
+    (λ c. search read-laws)
+    (λ c. search read-laws)
+    (λ c. search read-accepted))

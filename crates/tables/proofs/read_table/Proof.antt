@@ -1,6 +1,6 @@
 -- The rows up to here are kept, and what is left to read comes to the same as the whole.
 use Rattle.meaning.specs.Limits.{elementLimit}
-use Rattle.tables.specs.Edg.{rowsRead}
+use Rattle.edg.specs.Edg.{rowsRead}
 use Rattle.tables.specs.Kept.{mapped, gatheredIn, added}
 use Rattle.tables.proofs.Tables.{Upto, table-laws}
 use Rattle.tables.proofs.read_table.Statement.{statement}

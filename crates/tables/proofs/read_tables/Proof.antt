@@ -1,7 +1,7 @@
 -- The tables of the types below kind are kept. Each one is read in its stretch, which is reading it in the file.
 use Prim.Native.Nat.{_-_}
 use Rattle.meaning.specs.Limits.{elementLimit}
-use Rattle.tables.specs.Edg.{tablesRead}
+use Rattle.edg.specs.Edg.{tablesRead}
 use Rattle.tables.specs.Kept.{mapped, gatheredIn, none, added}
 use Rattle.tables.proofs.Tables.{Below, tables-laws}
 use Rattle.tables.proofs.read_tables.Statement.{statement}
@@ -25,12 +25,6 @@ read-tables-spec =
     (λ c κs. search tables-laws)
     (λ c. search tables-laws)
     (λ c. search tables-laws)
-    (λ c. search tables-laws)
-    (λ c. search tables-laws)
-    (λ c. search tables-laws)
-    (λ c. search tables-laws)
-    (λ c κs. search tables-laws)
-    (λ c κs. search tables-laws)
     (λ c. search tables-laws)
     (λ c. search tables-laws)
     (λ c. search tables-laws)

@@ -1,7 +1,0 @@
--- No mask has a bit.
-use Rattle.announce.proofs.Algebra.{algebra}
-use Rattle.announce.proofs.nothing.Statement.{statement}
-use Rattle.announce.proofs.nothing.Tie as tie
-
-pub nothing-spec : {M : Type 1} → statement M
-nothing-spec = tie.close (tie.spec (λ c. search algebra))

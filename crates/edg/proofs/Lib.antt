@@ -1,0 +1,5 @@
+pub mod Lists
+pub mod Numbers
+pub mod Tabling
+pub mod Rows
+pub mod File

@@ -1,0 +1,2 @@
+-- The tables file.
+pub mod Edg

@@ -1,0 +1,2 @@
+-- The laws of reading files in order.
+pub mod Opening

@@ -1,0 +1,2 @@
+-- The files of a call.
+pub mod Files

@@ -1,9 +1,0 @@
--- The three sets are the three cases of the definition.
-use Rattle.graph.proofs.KindMasks.{laws}
-use Rattle.graph.proofs.live.Statement.{statement}
-use Rattle.graph.proofs.live.Tie as tie
-
-pub live-spec : {M : Type 1} → statement M
-live-spec =
-    tie.close
-    (tie.spec (λ c κs. search laws) (λ c κs. search laws) (λ c κs. search laws) (λ c κs. search laws) (λ c. search laws))

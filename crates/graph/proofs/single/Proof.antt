@@ -1,7 +1,0 @@
--- A kind below 17 is a bit of the mask; any other number is none.
-use Rattle.graph.proofs.KindMasks.{laws}
-use Rattle.graph.proofs.single.Statement.{statement}
-use Rattle.graph.proofs.single.Tie as tie
-
-pub single-spec : {M : Type 1} → statement M
-single-spec = tie.close (tie.spec (λ c. search laws) (λ c. search laws) (λ c. search laws) (λ c. search laws))

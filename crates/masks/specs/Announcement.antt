@@ -1,0 +1,20 @@
+-- The announcement of a program: for each step, one set of kinds for each of 17 kinds.
+use Prim.Native.Nat.{_-_}
+use mathlib.Core.List.{List, _++_, map}
+use lib.ListN.{length, replicate}
+use Rattle.meaning.specs.declared.Graph.{Graph}
+use Rattle.meaning.specs.declared.Operation.{Operation}
+use Rattle.meaning.specs.Limits.{kinds, stepLimit}
+use Rattle.meaning.specs.Sets.{mask}
+use Rattle.meaning.specs.Lists.{table}
+use Rattle.meaning.specs.Relations.{Relation, nothing}
+use Rattle.meaning.specs.Announcements.{announced}
+use Rattle.masks.specs.declared.Announced.{Announced}
+
+-- for each kind A, the set of the kinds B with (A, B) in the relation
+unfoldable pub announcedSets : Relation → Announced
+announcedSets r = record { pairs = table (λ A. mask kinds (λ B. r A B)) 0 kinds }
+
+-- steps past the end have empty sets
+unfoldable pub announcement : Graph → List Operation → List Announced
+announcement g os = map announcedSets (announced g os) ++ replicate (stepLimit - length os) (announcedSets nothing)

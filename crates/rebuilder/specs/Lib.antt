@@ -1,0 +1,2 @@
+-- What the rebuilder needs and writes.
+pub mod Rebuild

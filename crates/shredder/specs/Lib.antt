@@ -1,0 +1,2 @@
+-- What the shredder needs and writes.
+pub mod Shred

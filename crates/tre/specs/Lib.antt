@@ -1,0 +1,2 @@
+-- The document file.
+pub mod Tre
