@@ -5,9 +5,8 @@ use lib.ListN.{replicate}
 use Rattle.meaning.specs.Limits.{stepLimit}
 use Rattle.meaning.specs.Relations.{nothing}
 use Rattle.meaning.specs.Refused.{numberOf}
-use Rattle.fields.specs.Read.{Read, got, refused, bind}
-use Rattle.graph.specs.Gra.{graphFile}
-use Rattle.rel.specs.Rel.{programFile}
+use Rattle.fields.specs.Read.{Read, got, refused}
+use Rattle.files.specs.Files.{mapped, programUnder}
 use Rattle.masks.specs.declared.Announced.{Announced}
 use Rattle.masks.specs.Announcement.{announcedSets, announcement}
 use Rattle.announce.specs.declared.Checked.{Checked}
@@ -18,5 +17,4 @@ checked (got steps n) = record { number = 0; steps = steps }
 checked (refused r) = record { number = numberOf (r .reason); steps = replicate stepLimit (announcedSets nothing) }
 
 unfoldable pub checkOf : List ℕ → List ℕ → Checked
-checkOf gra rel =
-    checked (bind (graphFile gra 0) λ g _. bind (programFile (g .k) rel 0) λ os n. got (announcement g os) n)
+checkOf gra rel = checked (mapped (λ x. announcement (x .0) (x .1)) (programUnder gra rel))

@@ -27,24 +27,18 @@ fn refused(refusal: Refusal) -> Checked
     }
 }
 
-// The graph is read first, then the program; the first refusal is the answer.
+// Reads a graph and a program, and announces the pairs of each step.
 pub fn check(gra: &[u8], rel: &[u8]) -> Checked
     ensures { λ r. ⌜ r ≡ checkOf (now (gra .entry)) (now (rel .entry)) ⌝ }
 {
-    let graph_read = graph::read(gra);
-    let outcome = graph_read.outcome;
+    let opened = files::program(gra, rel);
+    let outcome = opened.outcome;
     if let Outcome::Refused(refusal) = outcome {
         return refused(refusal);
     }
-    let g = graph_read.graph;
-    let program_read = program::read(rel, g.k);
-    let outcome = program_read.outcome;
-    if let Outcome::Refused(refusal) = outcome {
-        return refused(refusal);
-    }
-    let p = program_read.program;
+    let program = opened.program;
     Checked {
         number: 0,
-        steps: masks::announce(g, p),
+        steps: masks::announce(opened.graph, program),
     }
 }

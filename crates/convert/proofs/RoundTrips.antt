@@ -17,6 +17,7 @@ use Rattle.edg.specs.Edg.{tablesFile, tablesBytes}
 use Rattle.edg.proofs.File.{tables-read, tables-written}
 use Rattle.writing.specs.Lent.{Lent, accepted, stored, lent, fileIn}
 use Rattle.writing.proofs.Stored.{stored-there, stored-file}
+use Rattle.files.proofs.Handed.{under-got, mapped-got}
 use Rattle.shredder.specs.Shred.{tablesLength}
 use Rattle.shredder.proofs.Answers.{tables-length}
 use Rattle.rebuilder.specs.Rebuild.{documentLength}
@@ -45,11 +46,11 @@ trip file before out rest {there} back e room f room-back =
 module _ (gra : List ℕ) (g : Graph) (m : ℕ) (graph : graphFile gra 0 ≡ got g m) {es : List Element} {n : ℕ} where
   shredded-is : (tre out : List ℕ) → documentFile elementLimit g tre 0 ≡ got es n → shredded gra tre out ≡ stored (tablesBytes g es) out
   unfolding shredded lent
-  shredded-is tre out h = rw (graph, h)
+  shredded-is tre out h = rw (mapped-got (λ x. tablesBytes (x .0) (x .1)) (under-got gra (λ g. documentFile elementLimit g tre 0) graph h))
 
   rebuilt-is : (edg out : List ℕ) → tablesFile elementLimit g edg 0 ≡ got es n → rebuilt gra edg out ≡ stored (documentBytes es) out
   unfolding rebuilt lent
-  rebuilt-is edg out h = rw (graph, h)
+  rebuilt-is edg out h = rw (mapped-got (λ x. documentBytes (x .1)) (under-got gra (λ g. tablesFile elementLimit g edg 0) graph h))
 
 module _ (gra : List ℕ) (g : Graph) (es : List Element) (m n : ℕ) (out back : List ℕ) (bytes : Bytes gra) (graph : graphFile gra 0 ≡ got g m) where
   pub document-returns : (tre : List ℕ) → Bytes tre → documentFile elementLimit g tre 0 ≡ got es n → tablesLength (g .k) (length es) ≤ length out → length tre ≤ length back

@@ -2,17 +2,13 @@
 -- file, the room last.
 use Prim.Native.Nat.{ℕ}
 use mathlib.Core.List.{List}
-use Rattle.meaning.specs.Limits.{elementLimit}
-use Rattle.fields.specs.Read.{got, bind}
-use Rattle.graph.specs.Gra.{graphFile}
-use Rattle.tre.specs.Tre.{documentFile, documentBytes}
-use Rattle.edg.specs.Edg.{tablesFile, tablesBytes}
+use Rattle.tre.specs.Tre.{documentBytes}
+use Rattle.edg.specs.Edg.{tablesBytes}
 use Rattle.writing.specs.Lent.{Lent, lent}
+use Rattle.files.specs.Files.{mapped, documentUnder, tablesUnder}
 
 unfoldable pub shredded : List ℕ → List ℕ → List ℕ → Lent
-shredded gra tre out =
-    lent (bind (graphFile gra 0) λ g _. bind (documentFile elementLimit g tre 0) λ es n. got (tablesBytes g es) n) out
+shredded gra tre out = lent (mapped (λ x. tablesBytes (x .0) (x .1)) (documentUnder gra tre)) out
 
 unfoldable pub rebuilt : List ℕ → List ℕ → List ℕ → Lent
-rebuilt gra edg out =
-    lent (bind (graphFile gra 0) λ g _. bind (tablesFile elementLimit g edg 0) λ es n. got (documentBytes es) n) out
+rebuilt gra edg out = lent (mapped (λ x. documentBytes (x .1)) (tablesUnder gra edg)) out

@@ -1,5 +1,3 @@
 -- The shredder and the rebuilder over files, and what is promised of the two together.
 pub mod Convert
-pub mod Shred
-pub mod Rebuild
 pub mod RoundTrips

@@ -1,5 +1,5 @@
 -- The table of codes: what each row says of the part that begins with its code.
-use Prim.Native.Nat.{ℕ, _+_, _*_, _/_, _%_, _≤_}
+use Prim.Native.Nat.{ℕ, _+_, _*_, _/_, _%_}
 use mathlib.Core.Path.{_≡_, refl, ap}
 use mathlib.Core.List.{List, [], _∷_, _++_}
 use native.Mathlib.Omega.{arith}
@@ -10,8 +10,8 @@ use Rattle.meaning.specs.declared.Graph.{Graph}
 use Rattle.meaning.specs.declared.Operation.the-variants.{Text}
 use Rattle.meaning.specs.Queries.{self, child, anyChild, slash, slashes, union, filter, reached, textIs, isNot, both, either, pathCount, qualifierCount, LegalPath, LegalQualifier}
 use Rattle.meaning.specs.Translation as translation
-use Rattle.meaning.specs.Translation.{step, then, thenBoth, out}
-use Rattle.query.specs.Qry.{Sort, path, qualifier, Tree, pathBytes, qualifierBytes}
+use Rattle.meaning.specs.Translation.{step, then, thenBoth}
+use Rattle.query.specs.Qry.{pathBytes, qualifierBytes}
 use Rattle.steps.specs.declared.Operator.{Operator}
 use Rattle.steps.specs.Writes.{applied, onto}
 use Rattle.descent.specs.declared.rows.Leaf.{Leaf}
@@ -19,104 +19,64 @@ use Rattle.descent.specs.declared.rows.Ending.{Ending}
 use Rattle.descent.specs.declared.rows.Second.{Second}
 use Rattle.descent.specs.declared.rows.Row.{Row}
 use Rattle.descent.specs.Rows.{rowOf, leafEnd, leafKinds, leafStep, Typed, endingSteps, endingCount, betweenSteps, betweenCount, under, led}
-use Rattle.descent.specs.Dues.{bytesOf, Legal, adds, weight, outOf}
+use Rattle.descent.specs.Dues.{Part, path, qualifier, bytesOf, adds, weight, out}
 
 -- no part: its fields are all that follows
-pub record Alone (leaf : Leaf) (g : Graph) (σ : Sort) (t : Tree σ) (more : List ℕ) : Type 0 where
+pub record Alone (leaf : Leaf) (g : Graph) (p : Part (g .k)) (more : List ℕ) : Type 0 where
   pub ends : (at : ℕ) → leafEnd leaf at ≡ at + length more
   pub type : (rest : List ℕ) → Typed leaf (g .k) (more ++ rest)
-  pub made : (C : ℕ) (rest : List ℕ) → adds g C σ t ≡ step (leafStep leaf g (more ++ rest) C)
-  pub counts : weight σ t ≡ 1
-  pub leads : (C : ℕ) (rest : List ℕ) → outOf g C σ t ≡ leafKinds leaf g (more ++ rest) C
+  pub counts : weight p ≡ 1
+  pub made : (C : ℕ) (rest : List ℕ) → adds g C p ≡ step (leafStep leaf g (more ++ rest) C)
+  pub leads : (C : ℕ) (rest : List ℕ) → out g C p ≡ leafKinds leaf g (more ++ rest) C
 
--- one part
-pub record One (ending : Ending) (g : Graph) (σ : Sort) (t : Tree σ) (more : List ℕ) : Type 0 where
-  pub sort : Sort
-  pub inner : Tree sort
-  pub legal : Legal (g .k) sort inner
-  pub bytes : more ≡ bytesOf sort inner
-  pub made : (C : ℕ) → adds g C σ t ≡ λ os. endingSteps ending (adds g C sort inner os)
-  pub counts : weight σ t ≡ weight sort inner + endingCount ending
-  pub leads : (C : ℕ) → outOf g C σ t ≡ C
+-- one
+pub record One (ending : Ending) (g : Graph) (p : Part (g .k)) (more : List ℕ) : Type 0 where
+  pub inner : Part (g .k)
+  pub bytes : more ≡ bytesOf inner
+  pub counts : weight p ≡ weight inner + endingCount ending
+  pub made : (C : ℕ) → adds g C p ≡ λ os. endingSteps ending (adds g C inner os)
+  pub leads : (C : ℕ) → out g C p ≡ C
 
 -- two
-pub record Two (second : Second) (operator : Operator) (g : Graph) (σ : Sort) (t : Tree σ) (more : List ℕ) : Type 0 where
-  pub left-sort : Sort
-  pub right-sort : Sort
-  pub left : Tree left-sort
-  pub right : Tree right-sort
-  pub left-legal : Legal (g .k) left-sort left
-  pub right-legal : Legal (g .k) right-sort right
-  pub bytes : more ≡ bytesOf left-sort left ++ bytesOf right-sort right
-  pub made : (C : ℕ) → let K = outOf g C left-sort left in
-      adds g C σ t ≡ λ os. onto (applied operator) (adds g (under second g C K) right-sort right) (betweenSteps second g K (adds g C left-sort left os))
-  pub counts : weight σ t ≡ weight left-sort left + betweenCount second + weight right-sort right + 1
-  pub leads : (C : ℕ) → let K = outOf g C left-sort left in outOf g C σ t ≡ led second K (outOf g (under second g C K) right-sort right)
+pub record Two (second : Second) (operator : Operator) (g : Graph) (p : Part (g .k)) (more : List ℕ) : Type 0 where
+  pub left : Part (g .k)
+  pub right : Part (g .k)
+  pub bytes : more ≡ bytesOf left ++ bytesOf right
+  pub counts : weight p ≡ weight left + betweenCount second + weight right + 1
+  pub made : (C : ℕ) → let K = out g C left in adds g C p ≡ λ os. onto (applied operator) (adds g (under second g C K) right) (betweenSteps second g K (adds g C left os))
+  pub leads : (C : ℕ) → let K = out g C left in out g C p ≡ led second K (out g (under second g C K) right)
 
-abbrev pub Fact : Row → Graph → (σ : Sort) → Tree σ → List ℕ → Type 0
-Fact (Row.Leaf leaf) g σ t more = Alone leaf g σ t more
-Fact (Row.One ending) g σ t more = One ending g σ t more
-Fact (Row.Two second operator) g σ t more = Two second operator g σ t more
+abbrev pub Fact : Row → (g : Graph) → Part (g .k) → List ℕ → Type 0
+Fact (Row.Leaf leaf) g p more = Alone leaf g p more
+Fact (Row.One ending) g p more = One ending g p more
+Fact (Row.Two second operator) g p more = Two second operator g p more
 
 -- a part begins with its code, and what follows is as the row says
-pub record Coded (g : Graph) (σ : Sort) (t : Tree σ) : Type 0 where
+pub record Coded (g : Graph) (p : Part (g .k)) : Type 0 where
   pub code : ℕ
   pub more : List ℕ
-  pub bytes : bytesOf σ t ≡ code ∷ more
-  pub fact : Fact (rowOf code) g σ t more
+  pub bytes : bytesOf p ≡ code ∷ more
+  pub fact : Fact (rowOf code) g p more
 
-module _ {g : Graph} {σ : Sort} {t : Tree σ} where
-  leaf-coded : (c : ℕ) {leaf : Leaf} (more : List ℕ) → rowOf c ≡ Row.Leaf leaf → bytesOf σ t ≡ c ∷ more → Alone leaf g σ t more → Coded g σ t
-  leaf-coded c more r e f = record { code = c; more = more; bytes = e; fact = rw r f }
+row : {g : Graph} {p : Part (g .k)} (code : ℕ) {more : List ℕ} → bytesOf p ≡ code ∷ more → Fact (rowOf code) g p more → Coded g p
+row code {more} e f = record { code = code; more = more; bytes = e; fact = f }
 
-  one-coded : (c : ℕ) {ending : Ending} (τ : Sort) (a : Tree τ) → rowOf c ≡ Row.One ending → bytesOf σ t ≡ c ∷ bytesOf τ a → Legal (g .k) τ a
-      → ((C : ℕ) → adds g C σ t ≡ λ os. endingSteps ending (adds g C τ a os)) → weight σ t ≡ weight τ a + endingCount ending → ((C : ℕ) → outOf g C σ t ≡ C) → Coded g σ t
-  one-coded c τ a r e h made counts leads = record {
-    code = c;
-    more = bytesOf τ a;
-    bytes = e;
-    fact = rw r (record { sort = τ; inner = a; legal = h; bytes = refl; made = made; counts = counts; leads = leads });
-  }
-
-  two-coded : (c : ℕ) {second : Second} {operator : Operator} (τ υ : Sort) (a : Tree τ) (b : Tree υ) → rowOf c ≡ Row.Two second operator
-      → bytesOf σ t ≡ c ∷ (bytesOf τ a ++ bytesOf υ b) → Legal (g .k) τ a × Legal (g .k) υ b
-      → ((C : ℕ) → let K = outOf g C τ a in adds g C σ t ≡ λ os. onto (applied operator) (adds g (under second g C K) υ b) (betweenSteps second g K (adds g C τ a os)))
-      → weight σ t ≡ weight τ a + betweenCount second + weight υ b + 1
-      → ((C : ℕ) → let K = outOf g C τ a in outOf g C σ t ≡ led second K (outOf g (under second g C K) υ b)) → Coded g σ t
-  two-coded c τ υ a b r e h made counts leads = record {
-    code = c;
-    more = bytesOf τ a ++ bytesOf υ b;
-    bytes = e;
-    fact = rw r (record {
-      left-sort = τ;
-      right-sort = υ;
-      left = a;
-      right = b;
-      left-legal = h .0;
-      right-legal = h .1;
-      bytes = refl;
-      made = made;
-      counts = counts;
-      leads = leads;
-    });
-  }
-
-pub coded : (g : Graph) (σ : Sort) (t : Tree σ) → Legal (g .k) σ t → Coded g σ t
-unfolding rowOf pathBytes qualifierBytes pathCount qualifierCount LegalPath LegalQualifier translation.path translation.qualifier out then thenBoth onto
-coded g path self h = leaf-coded 0x01 [] refl refl (record { ends = omega arith; type = λ _. tt; made = λ _ _. refl; counts = refl; leads = λ _ _. refl })
-coded g path (child v) h = leaf-coded 0x02 (v ∷ []) refl refl (record { ends = omega arith; type = λ _. h; made = λ _ _. refl; counts = refl; leads = λ _ _. refl })
-coded g path anyChild h = leaf-coded 0x03 [] refl refl (record { ends = omega arith; type = λ _. tt; made = λ _ _. refl; counts = refl; leads = λ _ _. refl })
-coded g path (slash p q) h = two-coded 0x04 path path p q refl refl h (λ _. refl) (omega arith) (λ _. refl)
-coded g path (slashes p q) h = two-coded 0x05 path path p q refl refl h (λ _. refl) (omega arith) (λ _. refl)
-coded g path (union p q) h = two-coded 0x06 path path p q refl refl h (λ _. refl) (omega arith) (λ _. refl)
-coded g path (filter p q) h = two-coded 0x07 path qualifier p q refl refl h (λ _. refl) (omega arith) (λ _. refl)
-coded g qualifier (reached p) h = one-coded 0x11 path p refl refl h (λ _. refl) (omega arith) (λ _. refl)
-coded g qualifier (textIs v) h =
+pub coded : (g : Graph) (p : Part (g .k)) → Coded g p
+unfolding rowOf pathBytes qualifierBytes pathCount qualifierCount LegalPath LegalQualifier translation.path translation.qualifier translation.out then thenBoth onto
+coded g (path self h) = row 0x01 refl (record { ends = omega arith; type = λ _. tt; counts = refl; made = λ _ _. refl; leads = λ _ _. refl })
+coded g (path (child t) h) = row 0x02 refl (record { ends = omega arith; type = λ _. h; counts = refl; made = λ _ _. refl; leads = λ _ _. refl })
+coded g (path anyChild h) = row 0x03 refl (record { ends = omega arith; type = λ _. tt; counts = refl; made = λ _ _. refl; leads = λ _ _. refl })
+coded g (path (slash p q) h) = row 0x04 refl (record { left = path p (h .0); right = path q (h .1); bytes = refl; counts = omega arith; made = λ _. refl; leads = λ _. refl })
+coded g (path (slashes p q) h) = row 0x05 refl (record { left = path p (h .0); right = path q (h .1); bytes = refl; counts = omega arith; made = λ _. refl; leads = λ _. refl })
+coded g (path (union p q) h) = row 0x06 refl (record { left = path p (h .0); right = path q (h .1); bytes = refl; counts = omega arith; made = λ _. refl; leads = λ _. refl })
+coded g (path (filter p q) h) = row 0x07 refl (record { left = path p (h .0); right = qualifier q (h .1); bytes = refl; counts = omega arith; made = λ _. refl; leads = λ _. refl })
+coded g (qualifier (reached p) h) = row 0x11 refl (record { inner = path p h; bytes = refl; counts = omega arith; made = λ _. refl; leads = λ _. refl })
+coded g (qualifier (textIs v) h) =
     let word : v ≡ v / 256 * 256 + v % 256 = omega arith in
-    leaf-coded 0x12 (v / 256 ∷ v % 256 ∷ []) refl refl (record { ends = omega arith; type = λ _. tt; made = λ _ _. ap (λ n. step (Text n)) word; counts = refl; leads = λ _ _. refl })
-coded g qualifier (isNot q) h = one-coded 0x13 qualifier q refl refl h (λ _. refl) (omega arith) (λ _. refl)
-coded g qualifier (both q r) h = two-coded 0x14 qualifier qualifier q r refl refl h (λ _. refl) (omega arith) (λ _. refl)
-coded g qualifier (either q r) h = two-coded 0x15 qualifier qualifier q r refl refl h (λ _. refl) (omega arith) (λ _. refl)
+    row 0x12 refl (record { ends = omega arith; type = λ _. tt; counts = refl; made = λ _ _. ap (λ n. step (Text n)) word; leads = λ _ _. refl })
+coded g (qualifier (isNot q) h) = row 0x13 refl (record { inner = qualifier q h; bytes = refl; counts = omega arith; made = λ _. refl; leads = λ _. refl })
+coded g (qualifier (both q r) h) = row 0x14 refl (record { left = qualifier q (h .0); right = qualifier r (h .1); bytes = refl; counts = omega arith; made = λ _. refl; leads = λ _. refl })
+coded g (qualifier (either q r) h) = row 0x15 refl (record { left = qualifier q (h .0); right = qualifier r (h .1); bytes = refl; counts = omega arith; made = λ _. refl; leads = λ _. refl })
 
 -- the function of the table
 pub row-as : (c w : ℕ) {r : Row} → c ≡ w → r ≡ rowOf w → r ≡ rowOf c

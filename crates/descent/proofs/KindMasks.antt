@@ -1,7 +1,7 @@
 -- Sets of kinds: how large their masks are, and what the operations on masks say of them.
 use Prim.Native.Nat.{ℕ, _*_, _%_, _^_, _<_}
 use mathlib.Core.Path.{_≡_, sym, ap, ap₂, _∙_}
-use mathlib.Core.Bool.{Bool, _&&_}
+use mathlib.Core.Bool.{Bool, true, _&&_}
 use native.Mathlib.Nat.{mod-eq-of-lt}
 use native.Mathlib.Omega.{arith}
 use lib.Bits.{bitAnd, bitOr, and-lt}
@@ -40,14 +40,17 @@ out-small g C l (union p q) = mask-small _
 out-small g C l (filter p q) = out-small g C l p
 
 module _ (g : Graph) (legal : LegalGraph g) where
-  pub children-types : (C : ℕ) → image (childKind g) C < words
-  children-types C = below-bits types (image (childKind g) C) (λ t h. omega (arith, child-types g legal C t h, legal .most-types))
+  types-words : (C : ℕ) → ((t : ℕ) → bit C t ≡ true → t < g .k) → C < words
+  types-words C f = below-bits types C (λ t h. omega (arith, f t h, legal .most-types))
+
+  pub children-words : (C : ℕ) → image (childKind g) C < words
+  children-words C = types-words _ (child-types g legal C)
 
   pub reachable-words : (C : ℕ) → image (reachable g) C < words
-  reachable-words C = below-bits types (image (reachable g) C) (λ t h. omega (arith, reachable-types g legal C t h, legal .most-types))
+  reachable-words C = types-words _ (reachable-types g legal C)
 
-  pub only-types : (t C : ℕ) → only t (image (childKind g) C) < words
-  only-types t C = below-bits types (only t (image (childKind g) C)) (λ u h. omega (arith, child-types g legal C u (only-out t _ u h), legal .most-types))
+  pub only-words : (t C : ℕ) → only t (image (childKind g) C) < words
+  only-words t C = types-words _ (λ u h. child-types g legal C u (only-out t _ u h))
 
 pub together-or : (C D : ℕ) → C < 2 ^ kinds → D < 2 ^ kinds → bitOr C D ≡ together C D
 unfolding together

@@ -1,6 +1,6 @@
 -- The leaves: each arm writes the step of its leaf.
-use Prim.Native.Nat.{ℕ, _+_, _*_, _^_, _<_, _≤_}
-use mathlib.Core.Path.{_≡_, refl, sym, ap, _∙_}
+use Prim.Native.Nat.{ℕ, _+_, _*_, _^_, _<_}
+use mathlib.Core.Path.{_≡_, ap, _∙_}
 use mathlib.Core.List.{List}
 use native.Mathlib.Omega.{arith}
 use lib.ListN.{length, getD, drop}
@@ -14,8 +14,8 @@ use Rattle.meaning.specs.Translation.{image, only, step}
 use Rattle.steps.specs.declared.Place.{Place}
 use Rattle.steps.specs.Writes.{Goes}
 use Rattle.descent.specs.declared.rows.Leaf.{Leaf}
-use Rattle.descent.specs.Rows.{leafEnd, leafKinds, leafStep, Stands}
-use Rattle.descent.proofs.KindMasks.{image-small, children-types, only-types, only-and}
+use Rattle.descent.specs.Rows.{Stands, Leads}
+use Rattle.descent.proofs.KindMasks.{image-small, children-words, only-words, only-and}
 
 first-at : (s : List ℕ) (at : ℕ) → getD (drop at s) 0 0 ≡ getD s at 0
 first-at s at = getD-drop at s 0 0 ∙ ap (λ i. getD s i 0) (omega arith)
@@ -35,18 +35,13 @@ module _ {leaf : Leaf} {g : Graph} {s : List ℕ} {room : ℕ} {from : Place} (S
 
   module _ {kids : ℕ} (C : ℕ) (e : kids ≡ image (childKind g) C) where
     pub children-mask : kids < words
-    children-mask = rw e (children-types g (S .graph) C)
+    children-mask = rw e (children-words g (S .graph) C)
 
     pub child-mask : {K : ℕ} (t : ℕ) → K ≡ only t kids → K < words
-    child-mask t i = rw (i, e) (only-types g (S .graph) t C)
+    child-mask t i = rw (i, e) (only-words g (S .graph) t C)
 
 pub children-kinds : (g : Graph) {kids : ℕ} (C : ℕ) → kids ≡ image (childKind g) C → kids < 2 ^ kinds
 children-kinds g C e = rw e (image-small (childKind g) C)
-
--- the step of a leaf is written
-abbrev Leads : Leaf → Graph → List ℕ → List ℕ → List ℕ → Place → Place → Type 0
-Leads l g s old new from to = let xs = drop (from .at) s in let C = from .kinds in
-    Goes (step (leafStep l g xs C)) 1 (leafKinds l g xs C) (leafEnd l (from .at)) old new (from .steps) to
 
 module _ {leaf : Leaf} (g : Graph) (s : List ℕ) {old new : List ℕ} (from : Place) {to : Place} where
   pub itself-leads : leaf ≡ Leaf.Itself → Goes (step Itself) 1 (from .kinds) (from .at) old new (from .steps) to → Leads leaf g s old new from to

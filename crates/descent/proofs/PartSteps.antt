@@ -1,22 +1,21 @@
 -- What stands between two parts, and behind one or two: each arm writes the steps of its row.
-use Prim.Native.Nat.{ℕ, _+_, _-_, _^_, _<_}
-use mathlib.Core.Path.{_≡_, refl, ap, _∙_}
+use Prim.Native.Nat.{ℕ, _-_, _^_, _<_}
+use mathlib.Core.Path.{_≡_, refl}
 use mathlib.Core.List.{List}
-use native.Mathlib.Omega.{arith}
 use lib.Bits.{bitOr}
 use borrow.Author.Needs.{needs}
 use Rattle.meaning.specs.declared.Graph.{Graph}
 use Rattle.meaning.specs.declared.Operation.the-variants.{Itself, Has, Join}
 use Rattle.meaning.specs.Limits.{kinds}
 use Rattle.meaning.specs.Graphs.{reachable}
-use Rattle.meaning.specs.Translation.{Adds, image, together, orReachable, step, descend}
+use Rattle.meaning.specs.Translation.{image, orReachable, step, descend}
 use Rattle.steps.specs.declared.Place.{Place}
 use Rattle.steps.specs.declared.Operator.{Operator}
 use Rattle.steps.specs.Writes.{applied, onto, Goes, Behind, Below}
 use Rattle.steps.proofs.Laws.{stays, onto-goes, goes-as}
 use Rattle.descent.specs.declared.rows.Ending.{Ending}
 use Rattle.descent.specs.declared.rows.Second.{Second}
-use Rattle.descent.specs.Rows.{endingSteps, endingCount, betweenSteps, betweenCount, under, led, Between}
+use Rattle.descent.specs.Rows.{endingCount, led, Between, Ends, Begins}
 use Rattle.descent.proofs.KindMasks.{image-small, reachable-words, together-or}
 
 -- Behind one part.
@@ -30,9 +29,6 @@ module _ {ending : Ending} {room : ℕ} {inner : Place} (K : ℕ) (B : Behind (e
   pub not-behind : ending ≡ Ending.Not → Behind 2 room (behind K inner) (behind K inner)
   not-behind e = let b = rw e at B in record { some = b .some; later = b .later; enough = b .enough }
 
-abbrev Ends : Ending → ℕ → List ℕ → List ℕ → Place → Place → Type 0
-Ends e K old new inner to = Goes (endingSteps e) (endingCount e) K (inner .at) old new (inner .steps) to
-
 module _ {ending : Ending} {K : ℕ} {old new : List ℕ} (inner : Place) {to : Place} where
   pub has-ends : ending ≡ Ending.Has → Goes (step (Has (inner .steps - 1))) 1 K (inner .at) old new (inner .steps) to → Ends ending K old new inner to
   has-ends e p = rw e (onto-goes (stays inner K old) (applied Operator.Has) p)
@@ -41,9 +37,6 @@ module _ {ending : Ending} {K : ℕ} {old new : List ℕ} (inner : Place) {to : 
   not-ends e p = rw e p
 
 -- Between two.
-abbrev Begins : Second → Graph → ℕ → List ℕ → List ℕ → Place → Place → Type 0
-Begins b g C old new left to = Goes (betweenSteps b g (left .kinds)) (betweenCount b) (under b g C (left .kinds)) (left .at) old new (left .steps) to
-
 module _ {second : Second} (g : Graph) (C : ℕ) {old : List ℕ} (left : Place) where
   pub after-begins : second ≡ Second.After → Begins second g C old old left left
   after-begins e = rw e (stays left (left .kinds) old)

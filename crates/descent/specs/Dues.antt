@@ -6,10 +6,10 @@ use lib.ListN.{length, drop}
 use Rattle.meaning.specs.declared.Graph.{Graph}
 use Rattle.meaning.specs.Limits.{kinds}
 use Rattle.meaning.specs.Graphs.{LegalGraph}
-use Rattle.meaning.specs.Queries.{pathCount, qualifierCount, LegalPath, LegalQualifier}
+use Rattle.meaning.specs.Queries.{XPath, Qualifier, pathCount, qualifierCount, LegalPath, LegalQualifier}
 use Rattle.meaning.specs.Translation as translation
-use Rattle.meaning.specs.Translation.{Adds, out}
-use Rattle.query.specs.Qry.{Sort, path, qualifier, Tree, pathBytes, qualifierBytes}
+use Rattle.meaning.specs.Translation.{Adds}
+use Rattle.query.specs.Qry.{pathBytes, qualifierBytes}
 use Rattle.steps.specs.declared.Place.{Place}
 use Rattle.steps.specs.Writes.{Goes, Room}
 
@@ -17,40 +17,39 @@ use Rattle.steps.specs.Writes.{Goes, Room}
 abbrev pub start : Place
 start = record { kinds = 0x10000; at = 5; steps = 0 }
 
--- A part, a path or a qualifier: its bytes, which are legal, its steps, how many these are, and the kinds behind it. A qualifier stays where it is.
-abbrev pub bytesOf : (σ : Sort) → Tree σ → List ℕ
-bytesOf path p = pathBytes p
-bytesOf qualifier q = qualifierBytes q
+-- A part of a query, which is legal where there are k types: its bytes, its steps, how many these are, and the kinds behind it.
+pub data Part (k : ℕ) : Type 0 where
+  path : (p : XPath) → LegalPath k p → Part k
+  qualifier : (q : Qualifier) → LegalQualifier k q → Part k
 
-abbrev pub Legal : ℕ → (σ : Sort) → Tree σ → Type 0
-Legal k path p = LegalPath k p
-Legal k qualifier q = LegalQualifier k q
+abbrev pub bytesOf : {k : ℕ} → Part k → List ℕ
+bytesOf (path p h) = pathBytes p
+bytesOf (qualifier q h) = qualifierBytes q
 
-abbrev pub adds : Graph → ℕ → (σ : Sort) → Tree σ → Adds
-adds g C path p = translation.path g C p
-adds g C qualifier q = translation.qualifier g C q
+abbrev pub adds : {k : ℕ} → Graph → ℕ → Part k → Adds
+adds g C (path p h) = translation.path g C p
+adds g C (qualifier q h) = translation.qualifier g C q
 
-abbrev pub weight : (σ : Sort) → Tree σ → ℕ
-weight path p = pathCount 5 1 p
-weight qualifier q = qualifierCount 5 1 q
+abbrev pub weight : {k : ℕ} → Part k → ℕ
+weight (path p h) = pathCount 5 1 p
+weight (qualifier q h) = qualifierCount 5 1 q
 
-abbrev pub outOf : Graph → ℕ → (σ : Sort) → Tree σ → ℕ
-outOf g C path p = out g C p
-outOf g C qualifier q = C
+-- a qualifier stays where it is
+abbrev pub out : {k : ℕ} → Graph → ℕ → Part k → ℕ
+out g C (path p h) = translation.out g C p
+out g C (qualifier q h) = C
 
 -- a part stands where the descent is, and its steps may be added
 pub record Due (g : Graph) (s : List ℕ) (room : ℕ) (from : Place) : Type 0 where
   pub graph : LegalGraph g
   pub short : length s < 128
   pub kinds : from .kinds < 2 ^ kinds
-  pub sort : Sort
-  pub tree : Tree sort
-  pub legal : Legal (g .k) sort tree
+  pub part : Part (g .k)
   pub rest : List ℕ
-  pub stands : drop (from .at) s ≡ bytesOf sort tree ++ rest
-  pub enough : Room (weight sort tree) room (from .steps)
+  pub stands : drop (from .at) s ≡ bytesOf part ++ rest
+  pub enough : Room (weight part) room (from .steps)
 
 -- whichever part was due is translated
 pub record Done (g : Graph) (s old new : List ℕ) (from to : Place) : Type 0 where
-  pub done : (d : Due g s (length old) from) → let C = from .kinds in let σ = d .sort in let t = d .tree in
-      Goes (adds g C σ t) (weight σ t) (outOf g C σ t) (from .at + length (bytesOf σ t)) old new (from .steps) to
+  pub done : (d : Due g s (length old) from) → let C = from .kinds in let p = d .part in
+      Goes (adds g C p) (weight p) (out g C p) (from .at + length (bytesOf p)) old new (from .steps) to

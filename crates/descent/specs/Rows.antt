@@ -1,6 +1,5 @@
 -- The table of codes, and the steps that each row stands for.
-use Prim.Native.Nat.{ℕ, _+_, _*_, _^_, _<_, _≤_}
-use mathlib.Core.Path.{_≡_}
+use Prim.Native.Nat.{ℕ, _+_, _*_, _-_, _^_, _<_, _≤_}
 use mathlib.Core.List.{List}
 use lib.Dec.{eqb}
 use lib.ListN.{length, getD, drop}
@@ -12,7 +11,7 @@ use Rattle.meaning.specs.Translation.{Adds, image, only, together, orReachable,
 use Rattle.fields.specs.Read.{pick}
 use Rattle.steps.specs.declared.Place.{Place}
 use Rattle.steps.specs.declared.Operator.{Operator}
-use Rattle.steps.specs.Writes.{applied, onto, Room, Behind}
+use Rattle.steps.specs.Writes.{applied, onto, Goes, Room, Behind}
 use Rattle.descent.specs.declared.rows.Leaf.{Leaf}
 use Rattle.descent.specs.declared.rows.Ending.{Ending}
 use Rattle.descent.specs.declared.rows.Second.{Second}
@@ -72,6 +71,11 @@ pub record Stands (leaf : Leaf) (g : Graph) (s : List ℕ) (room : ℕ) (from : 
   pub type : Typed leaf (g .k) (drop (from .at) s)
   pub enough : Room 1 room (from .steps)
 
+-- the step is written
+abbrev pub Leads : Leaf → Graph → List ℕ → List ℕ → List ℕ → Place → Place → Type 0
+Leads leaf g s old new from to = let xs = drop (from .at) s in let C = from .kinds in
+    Goes (step (leafStep leaf g xs C)) 1 (leafKinds leaf g xs C) (leafEnd leaf (from .at)) old new (from .steps) to
+
 -- Behind one part.
 abbrev pub endingSteps : Ending → Adds
 endingSteps Ending.Has = onto (applied Operator.Has) (λ os. os)
@@ -80,6 +84,10 @@ endingSteps Ending.Not = onto (applied Operator.Diff) (step Operation.Itself)
 abbrev pub endingCount : Ending → ℕ
 endingCount Ending.Has = 1
 endingCount Ending.Not = 2
+
+-- these are written, and the kinds are those of the whole
+abbrev pub Ends : Ending → ℕ → List ℕ → List ℕ → Place → Place → Type 0
+Ends ending C old new inner to = Goes (endingSteps ending) (endingCount ending) C (inner .at) old new (inner .steps) to
 
 -- Between two parts, of which the first leads to the kinds K: steps, and the kinds of the second, where the whole stands under C.
 abbrev pub betweenSteps : Second → Graph → ℕ → Adds
@@ -97,20 +105,29 @@ under Second.After g C K = K
 under Second.Beside g C K = C
 under Second.Deeper g C K = orReachable g K
 
--- behind both, of which the second leads to L
-abbrev pub led : Second → ℕ → ℕ → ℕ
-led Second.After K L = L
-led Second.Beside K L = together K L
-led Second.Deeper K L = L
-
 -- behind the first part there is room for the steps between
 pub record Between (second : Second) (g : Graph) (room : ℕ) (left : Place) : Type 0 where
   pub graph : LegalGraph g
   pub kinds : left .kinds < 2 ^ kinds
   pub behind : Behind (betweenCount second) room left left
 
--- behind both, for the operation
+-- these are written, and the second part begins
+abbrev pub Begins : Second → Graph → ℕ → List ℕ → List ℕ → Place → Place → Type 0
+Begins second g C old new left to = let K = left .kinds in Goes (betweenSteps second g K) (betweenCount second) (under second g C K) (left .at) old new (left .steps) to
+
+-- Behind both, of which the second leads to the kinds L.
+abbrev pub led : Second → ℕ → ℕ → ℕ
+led Second.After K L = L
+led Second.Beside K L = together K L
+led Second.Deeper K L = L
+
+-- there is room for the operation
 pub record Ended (K room : ℕ) (begun right : Place) : Type 0 where
   pub first : K < 2 ^ kinds
   pub second : right .kinds < 2 ^ kinds
   pub behind : Behind 1 room begun right
+
+-- it is written
+abbrev pub Combines : Second → Operator → ℕ → List ℕ → List ℕ → Place → Place → Place → Type 0
+Combines second operator K old new begun right to =
+    Goes (step (applied operator (begun .steps - 1) (right .steps - 1))) 1 (led second K (right .kinds)) (right .at) old new (right .steps) to

@@ -1,12 +1,11 @@
 // The codes with no part: one step, and the kinds behind it.
 ghost use mathlib.Core.Path.{_≡_};
 ghost use Prim.Native.Nat.{_^_, _<_};
-ghost use lib.ListN.{length, drop};
+ghost use lib.ListN.{length};
 ghost use Rattle.meaning.specs.Limits.{types, kinds};
 ghost use Rattle.meaning.specs.Graphs.{childKind};
-ghost use Rattle.meaning.specs.Translation.{step, image, only};
-ghost use Rattle.steps.specs.Writes.{Goes};
-ghost use Rattle.descent.specs.Rows.{graphOf, leafEnd, leafKinds, leafStep, Stands};
+ghost use Rattle.meaning.specs.Translation.{image, only};
+ghost use Rattle.descent.specs.Rows.{graphOf, Stands, Leads};
 use crate::rows::Leaf;
 use meaning::Graph;
 use meaning::Operation;
@@ -40,7 +39,7 @@ pub(crate) fn write(
     out: &mut [u8],
 ) -> Place
     requires { ⌜ Stands leaf (graphOf k root (now masks)) (now qry) (length (now out)) from ⌝ }
-    ensures { λ r. ⌜ Goes (step (leafStep leaf (graphOf k root (now (masks .entry))) (drop (from .at) (now (qry .entry))) (from .kinds))) 1 (leafKinds leaf (graphOf k root (now (masks .entry))) (drop (from .at) (now (qry .entry))) (from .kinds)) (leafEnd leaf (from .at)) (now (out .entry)) (now (out .exit)) (from .steps) r ⌝ }
+    ensures { λ r. ⌜ Leads leaf (graphOf k root (now (masks .entry))) (now (qry .entry)) (now (out .entry)) (now (out .exit)) from r ⌝ }
 {
     let at = from.at as usize;
     match leaf {

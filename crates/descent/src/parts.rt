@@ -1,12 +1,12 @@
 // What stands between two parts, and behind one or two.
 ghost use mathlib.Core.Path.{_≡_};
-ghost use Prim.Native.Nat.{_-_, _^_, _<_};
+ghost use Prim.Native.Nat.{_^_, _<_};
 ghost use lib.ListN.{length};
 ghost use Rattle.meaning.specs.Limits.{kinds};
 ghost use Rattle.meaning.specs.Graphs.{reachable};
-ghost use Rattle.meaning.specs.Translation.{image, step};
-ghost use Rattle.steps.specs.Writes.{applied, Goes, Behind};
-ghost use Rattle.descent.specs.Rows.{graphOf, endingSteps, endingCount, betweenSteps, betweenCount, under, led, Between, Ended};
+ghost use Rattle.meaning.specs.Translation.{image};
+ghost use Rattle.steps.specs.Writes.{Behind};
+ghost use Rattle.descent.specs.Rows.{graphOf, endingCount, led, Between, Ended, Ends, Begins, Combines};
 use crate::rows::Ending;
 use crate::rows::Second;
 use meaning::Graph;
@@ -16,7 +16,7 @@ use steps::Place;
 // Behind the only part, under the kinds of the whole.
 pub(crate) fn end(ending: Ending, kinds: u32, inner: Place, out: &mut [u8]) -> Place
     requires { ⌜ Behind (endingCount ending) (length (now out)) inner inner ⌝ }
-    ensures { λ r. ⌜ Goes (endingSteps ending) (endingCount ending) kinds (inner .at) (now (out .entry)) (now (out .exit)) (inner .steps) r ⌝ }
+    ensures { λ r. ⌜ Ends ending kinds (now (out .entry)) (now (out .exit)) inner r ⌝ }
 {
     let behind = Place {
         kinds,
@@ -48,7 +48,7 @@ pub(crate) fn begin(
     out: &mut [u8],
 ) -> Place
     requires { ⌜ Between second (graphOf k root (now masks)) (length (now out)) left ⌝ }
-    ensures { λ r. ⌜ Goes (betweenSteps second (graphOf k root (now (masks .entry))) (left .kinds)) (betweenCount second) (under second (graphOf k root (now (masks .entry))) kinds (left .kinds)) (left .at) (now (out .entry)) (now (out .exit)) (left .steps) r ⌝ }
+    ensures { λ r. ⌜ Begins second (graphOf k root (now (masks .entry))) kinds (now (out .entry)) (now (out .exit)) left r ⌝ }
 {
     match second {
         Second::After => left,
@@ -84,7 +84,7 @@ pub(crate) fn combine(
     out: &mut [u8],
 ) -> Place
     requires { ⌜ Ended kinds (length (now out)) begun right ⌝ }
-    ensures { λ r. ⌜ Goes (step (applied operator (begun .steps - 1) (right .steps - 1))) 1 (led second kinds (right .kinds)) (right .at) (now (out .entry)) (now (out .exit)) (right .steps) r ⌝ }
+    ensures { λ r. ⌜ Combines second operator kinds (now (out .entry)) (now (out .exit)) begun right r ⌝ }
 {
     let behind = Place {
         kinds: led(second, kinds, right.kinds),

@@ -1,2 +1,3 @@
 -- The laws of reading files in order.
+pub mod Handed
 pub mod Opening

@@ -20,7 +20,6 @@ use Rattle.meaning.specs.Queries.{XPath}
 use Rattle.meaning.specs.Records.{operationsIn}
 use Rattle.fields.specs.Read.{Read, got, refused, bind}
 use Rattle.fields.specs.Outcomes.{outcomeOf, valueOr}
-use Rattle.fields.proofs.Formats.{bind-out, got-same}
 use Rattle.fields.proofs.Outcomes.{turned, held}
 use Rattle.elements.specs.declared.ElementsRead.{ElementsRead}
 use Rattle.elements.specs.Kept.{keptIn, Keeps}
@@ -40,6 +39,7 @@ use Rattle.rel.specs.Rel.{programFile}
 use Rattle.program.specs.declared.ProgramRead.{ProgramRead}
 use Rattle.program.specs.Answers.{programRead}
 use Rattle.program.proofs.Held.{program-turned, program-held, program-count, program-legal}
+use Rattle.files.proofs.Handed.{under-out}
 use Rattle.files.specs.Files.{under, then, documentUnder, tablesUnder, queryUnder, programUnder, tablesThenQuery, tablesThenProgram, Opens, OfElements, OfQuery, OfProgram, OfTablesThenQuery, OfTablesThenProgram}
 
 -- a refusal that is handed on
@@ -133,16 +133,6 @@ module _ (gra : List ℕ) {x : GraphRead} (p : x ≡ graphRead (graphFile gra 0)
         follows (λ g. programFile (g .k) rel 0) (OfProgram (x .graph) (y .program)) (λ r h. program-turned (x .graph .k) rel q h)
         λ h. of-program (x .graph) legal rel q b h
 
--- tables that were read under a graph: both were
-both-there : (gra edg : List ℕ) {x : Graph × List Element} {n : ℕ} → tablesUnder gra edg ≡ got x n
-    → (m : ℕ) × (l : ℕ) × (graphFile gra 0 ≡ got (x .0) m) × (tablesFile elementLimit (x .0) edg 0 ≡ got (x .1) l)
-unfolding under
-both-there gra edg e =
-    let (g, m, graph, rest) = bind-out (graphFile gra 0) (λ g _. bind {B = Graph × List Element} (tablesFile elementLimit g edg 0) λ a n. got (g, a) n) e in
-    let (es, l, tables, last) = bind-out (tablesFile elementLimit g edg 0) (λ a n. got (g, a) n) rest in
-    let same = got-same last .0 in
-    (m, l, graph ∙ ap (λ x. got (x .0) m) same, subst (λ x. tablesFile elementLimit (x .0) edg 0 ≡ got (x .1) l) same tables)
-
 -- Behind tables that are there, what follows decides.
 module _ (gra edg : List ℕ) {o : Outcome} {g : Graph} {kept : List ℕ} {count : ℕ} (p : Opens (tablesUnder gra edg) o (OfElements g kept count)) where
   module _ {A : Type 0} (f : Graph → Read A) where
@@ -169,9 +159,9 @@ module _ (gra edg : List ℕ) {o : Outcome} {g : Graph} {kept : List ℕ} {count
       unfolding under then
       tables-follow P away on =
           let (x, n, e, w) = p .held h in
-          let (m, l, read, tables) = both-there gra edg e in
+          let (m, read, tables) = under-out gra (λ g. tablesFile elementLimit g edg 0) e in
           let graph : graphFile gra 0 ≡ got g m = read ∙ ap (λ g. got g m) (w .graph) in
-          let there : tablesFile elementLimit g edg 0 ≡ got (x .1) l = subst (λ g. tablesFile elementLimit g edg 0 ≡ got (x .1) l) (w .graph) tables in
+          let there : tablesFile elementLimit g edg 0 ≡ got (x .1) n = subst (λ g. tablesFile elementLimit g edg 0 ≡ got (x .1) n) (w .graph) tables in
           let held : OfElements g kept count (g, x .1) = subst (λ g′. OfElements g kept count (g′, x .1)) (w .graph) w in
           record {
             turned = λ {r} q. rw (graph, there, away r q);

@@ -2,13 +2,13 @@
 use Prim.Native.Nat.{ℕ, _+_, _*_, _%_, _^_, _<_, _≤_}
 use mathlib.Core.Path.{_≡_, refl, sym, ap, _∙_, fun-ext}
 use mathlib.Core.Bool.{true, _&&_, _||_, and-comm}
-use mathlib.Core.List.{[], _∷_}
+use mathlib.Core.List.{List, [], _∷_}
 use native.Mathlib.Nat.{zero-add}
 use native.Mathlib.Numerals.{add-one}
 use native.Mathlib.Omega.{arith}
 use lib.Bits.{bitAnd, bitOr}
 use lib.Dec.{eqb}
-use lib.ListN.{length, getD, replicate, getD-replicate}
+use lib.ListN.{length, getD, set, replicate, getD-replicate}
 use borrow.Author.Needs.{needs}
 use borrow.Author.Tests.{eqb-true}
 use Rattle.meaning.specs.Limits.{kinds}
@@ -24,7 +24,7 @@ use Rattle.masks.specs.declared.Announced.{Announced}
 use Rattle.masks.specs.declared.Mix.{Mix}
 use Rattle.masks.specs.declared.Mix.the-variants.{Either, Both, Joined}
 use Rattle.masks.specs.Pairs.{relOf, mixture, diagonal, imageOf}
-use Rattle.masks.proofs.Rows.{FromKinds, pairs-from, from-same, rows-none, rows-more, rows-all}
+use Rattle.masks.proofs.Rows.{FromKinds, Rows, pairs-from, from-same, rows-none, rows-more, rows-all}
 
 -- the same mask for every kind
 abbrev alike : ℕ → Announced
@@ -52,18 +52,18 @@ unfolding intersection
 own-made a s l small h =
     from-same (record { from = λ A B e. pairs-from a l .from A B (and-right (relOf itself A B) _ e) }) small (λ A B k. rw (itself-at A B k) (h A B k))
 
-module _ {how : Mix} (a b : Announced) (i : ℕ) where
-  pub either-row : how ≡ Either → bit (bitOr (getD (a .pairs) i 0) (getD (b .pairs) i 0)) ≡ mixture how (relOf a) (relOf b) i
-  unfolding unite relOf
-  either-row e = rw e (fun-ext λ B. bit-or B _ _)
+module _ {how : Mix} (r s : Relation) (i x y : ℕ) (p : bit x ≡ r i) where
+  pub either-row : bit y ≡ s i → how ≡ Either → bit (bitOr x y) ≡ mixture how r s i
+  unfolding unite
+  either-row q e = rw e (fun-ext λ B. bit-or B x y ∙ rw (p, q))
 
-  pub both-row : how ≡ Both → bit (bitAnd (getD (a .pairs) i 0) (getD (b .pairs) i 0)) ≡ mixture how (relOf a) (relOf b) i
-  unfolding intersection relOf
-  both-row e = rw e (fun-ext λ B. bit-and B _ _)
+  pub both-row : bit y ≡ s i → how ≡ Both → bit (bitAnd x y) ≡ mixture how r s i
+  unfolding intersection
+  both-row q e = rw e (fun-ext λ B. bit-and B x y ∙ rw (p, q))
 
-  pub joined-row : (m : ℕ) → how ≡ Joined → bit m ≡ imageOf (relOf b) (bit (getD (a .pairs) i 0)) → bit m ≡ mixture how (relOf a) (relOf b) i
-  unfolding join relOf imageOf
-  joined-row m e h = rw e h
+  pub joined-row : bit y ≡ imageOf s (bit x) → how ≡ Joined → bit y ≡ mixture how r s i
+  unfolding join imageOf
+  joined-row q e = q ∙ rw (e, p)
 
 module _ (a b : Announced) (k : length (a .pairs) ≡ kinds) (l : length (b .pairs) ≡ kinds) where
   starts : (how : Mix) (A B : ℕ) → mixture how (relOf a) (relOf b) A B ≡ true → A < kinds
@@ -71,6 +71,12 @@ module _ (a b : Announced) (k : length (a .pairs) ≡ kinds) (l : length (b .pai
   starts Either A B h = or-out (relOf a A B) (relOf b A B) (pairs-from a k .from A B) (pairs-from b l .from A B) h
   starts Both A B h = pairs-from a k .from A B (and-left (relOf a A B) _ h)
   starts Joined A B h = any-out kinds _ (λ K _ e. pairs-from a k .from A K (and-left (relOf a A K) _ e)) h
+
+  pub mixture-more : (how : Mix) {xs : List ℕ} {i : ℕ} (m : ℕ) → i < kinds → Rows (mixture how (relOf a) (relOf b)) xs i
+      → ((r : Relation) (j : ℕ) → bit (getD (a .pairs) i 0) ≡ r j → bit (getD (b .pairs) i 0) ≡ relOf b j → bit m ≡ mixture how r (relOf b) j)
+      → Rows (mixture how (relOf a) (relOf b)) (set xs i m) (i + 1)
+  unfolding relOf
+  mixture-more how {i = i} m s h f = rows-more m s h (f (relOf a) i refl refl)
 
   pub mixture-from : (how : Mix) → FromKinds (mixture how (relOf a) (relOf b))
   mixture-from how = record { from = starts how }
@@ -118,4 +124,4 @@ has-made a j r l k q e =
     (λ A B s. rw q (and-where (eqb A B) (λ p.
     any-cong kinds _ _ (λ K k. and-implied (relOf a A K) _ (λ _. alike-at 0x1FFFF K B k ∙ every B (omega (arith, eqb-true A B p)))))))
 
-pub ruleset algebra = (nothing-made, either-row, both-row, joined-row, mixture-from, image-none, image-more, image-shown, closure-none, closure-more, closure-all, diagonal-made, has-made, rows-none, rows-more, rows-all, needs)
+pub ruleset algebra = (nothing-made, either-row, both-row, joined-row, mixture-more, mixture-from, image-none, image-more, image-shown, closure-none, closure-more, closure-all, diagonal-made, has-made, rows-none, rows-more, rows-all, needs)

@@ -83,12 +83,10 @@ fn image(set: u32, a: Announced) -> u32
     r
 }
 
-fn mixed_row(how: Mix, a: Announced, b: Announced, i: usize) -> u32
-    requires { ⌜ i < kinds ⌝ }
-    ensures { λ r. ⌜ bit r ≡ mixture how (relOf a) (relOf b) i ⌝ }
+// The row of a kind, mixed: x is that row of the first, y that of the second, which is b.
+fn mixed_row(how: Mix, x: u32, y: u32, b: Announced) -> u32
+    ensures { λ r. ⌜ ((a : Relation) (i : ℕ) → bit x ≡ a i → bit y ≡ relOf b i → bit r ≡ mixture how a (relOf b) i) ⌝ }
 {
-    let x = a.pairs[i];
-    let y = b.pairs[i];
     match how {
         Mix::Either => x | y,
         Mix::Both => x & y,
@@ -102,7 +100,7 @@ fn mixed(how: Mix, a: Announced, b: Announced) -> Announced
     let mut r = nothing();
     let mut i: usize = 0;
     while i < KINDS {
-        r.pairs[i] = mixed_row(how, a, b, i);
+        r.pairs[i] = mixed_row(how, a.pairs[i], b.pairs[i], b);
         i += 1;
     }
     r

@@ -1,7 +1,7 @@
 -- One law for each return of the readers of x and y, of the operation's maker and of the step's reader.
 use Prim.Native.Nat.{ℕ, _%_, _<_, _≤_}
 use mathlib.Core.Path.{_≡_, refl, ap, _∙_}
-use mathlib.Core.Bool.{Bool, true, _&&_}
+use mathlib.Core.Bool.{_&&_}
 use mathlib.Core.List.{List}
 use native.Mathlib.Nat.{le-antisymm}
 use native.Mathlib.Omega.{arith}
@@ -20,13 +20,12 @@ use Rattle.meaning.specs.Limits.{words}
 use Rattle.fields.specs.declared.Cursor.{Cursor}
 use Rattle.fields.specs.declared.Field.{Field}
 use Rattle.fields.specs.declared.Field.the-variants.{Got, Refused}
-use Rattle.fields.specs.Read.{Read, Reader, got, readOf, beside, judged, byte, byteBelow, byteUpTo}
-use Rattle.fields.proofs.Formats.{got-same, bind-out, judge-out}
+use Rattle.fields.specs.Read.{Read, got, readOf, beside, byte, byteBelow, byteUpTo}
 use Rattle.fields.proofs.Laws.{taken, handed}
 use Rattle.rel.specs.declared.Layout.{Layout}
 use Rattle.rel.specs.declared.Layout.the-variants.{Zeros, Single, Pair, Number, Mask}
 use Rattle.rel.specs.Rel.{layouts, layoutOf, readX, readY, operationOf, stepRead}
-use Rattle.rel.proofs.File.{range-out}
+use Rattle.rel.proofs.File.{judged-out, range-out}
 use Rattle.program.specs.Answers.{room, Coded}
 
 -- what is read for the layout that it is
@@ -62,14 +61,6 @@ module _ {code x y : ℕ} (h : Coded code x y) where
 
 pub ruleset operation-laws = (made-of-word, made-of-operands, made-last, needs)
 
--- what was accepted has passed its test
-judged-out : (m : Reader ℕ) (test : ℕ → Bool) (r : Reason) (s : List ℕ) (at : ℕ) {n k : ℕ} → judged m test r s at ≡ got n k → test n ≡ true
-unfolding judged
-judged-out m test r s at h =
-    let (a, i, p, q) = bind-out (m s at) _ h in
-    let (u, j, v, w) = bind-out _ _ q in
-    rw (got-same w .0) at (judge-out at (test a) r s i v .0)
-
 module _ (limit : ℕ) (r : Reason) (s : List ℕ) (at : ℕ) where
   -- a limit that is a byte
   small : {n k : ℕ} → limit ≤ 256 → byteBelow limit r s at ≡ got n k → n < 256
@@ -96,19 +87,19 @@ module _ (k s : ℕ) (b : List ℕ) (at at′ : ℕ) {x y n m : ℕ} (few : s �
 
 -- A step, field by field.
 module _ (k n : ℕ) (s : List ℕ) (at : ℕ) {f : Field} (p : readOf f ≡ byteUpTo (length layouts) Code s at) where
-  pub no-code : (o : Operation) {g : Field} {e : Refusal} → g ≡ f → f ≡ Refused e → beside g o ≡ stepRead k n s at
+  pub no-code : (o : Operation) {e : Refusal} → f ≡ Refused e → beside f o ≡ stepRead k n s at
   unfolding stepRead
-  no-code o i q = simp (i, q, handed p q)
+  no-code o q = simp (q, handed p q)
 
   module _ {code : ℕ} {c : Cursor} {l : Layout} {g : Field} (q : f ≡ Got code c) (i : l ≡ layoutOf code) (h : readOf g ≡ readX k n l s (c .at)) where
-    pub no-x : (o : Operation) {a : Field} {e : Refusal} → a ≡ g → g ≡ Refused e → beside a o ≡ stepRead k n s at
+    pub no-x : (o : Operation) {e : Refusal} → g ≡ Refused e → beside g o ≡ stepRead k n s at
     unfolding stepRead
-    no-x o m j = simp (m, j, taken p q, ← i, handed h j)
+    no-x o j = simp (j, taken p q, ← i, handed h j)
 
     module _ {x : ℕ} {d : Cursor} {z : Field} (j : g ≡ Got x d) (t : readOf z ≡ readY n l s (d .at)) where
-      pub no-y : (o : Operation) {a : Field} {e : Refusal} → a ≡ z → z ≡ Refused e → beside a o ≡ stepRead k n s at
+      pub no-y : (o : Operation) {e : Refusal} → z ≡ Refused e → beside z o ≡ stepRead k n s at
       unfolding stepRead
-      no-y o m u = simp (m, u, taken p q, ← i, taken h j, handed t u)
+      no-y o u = simp (u, taken p q, ← i, taken h j, handed t u)
 
       module _ {y : ℕ} {b : Cursor} (u : z ≡ Got y b) where
         pub step-read : {o : Operation} → o ≡ operationOf code x y → got o (b .at) ≡ stepRead k n s at

@@ -5,7 +5,7 @@ use mathlib.Core.List.{List, [], _∷_, _++_, append-assoc, append-nil}
 use native.Mathlib.Nat.{zero-add, sub-zero}
 use native.Mathlib.Omega.{arith}
 use native.Mathlib.Numerals.{add-one}
-use lib.ListN.{length, replicate, length-append}
+use lib.ListN.{length, set, replicate, length-append}
 use lib.Seq.{set-at}
 use borrow.Author.Needs.{needs}
 use Rattle.meaning.specs.declared.Operation.{Operation}
@@ -25,7 +25,7 @@ use Rattle.fields.specs.Read.{Read, Reader, got, refused, bind, _>>=_, _>>_, gi
 use Rattle.fields.proofs.Laws.{taken, handed, taken-passed, handed-passed, beside-got, beside-refused}
 use Rattle.rel.specs.Rel.{stepRead, stepsRead, program, programFile}
 use Rattle.program.specs.declared.ProgramRead.{ProgramRead}
-use Rattle.program.specs.Answers.{refusedBy, addedTo, programRead}
+use Rattle.program.specs.Answers.{refusedBy, programRead}
 use Rattle.program.proofs.Laws.{at-most}
 
 abbrev pub empty : Program
@@ -37,6 +37,10 @@ no-steps = refl
 
 pub refused-so : (f : Field) {o : Outcome} → o ≡ outcomeOf (readOf f) → record { outcome = o; program = empty } ≡ refusedBy f
 refused-so f e = simp (e, no-steps)
+
+-- a program with one more step
+abbrev addedTo : Program → Operation → Program
+addedTo p o = record { count = p .count + 1; steps = set (p .steps) (p .count) (record { number = p .count; operation = o }) }
 
 -- what m reads after the operations os, and then the end
 abbrev after : List Operation → Reader (List Operation) → Reader (List Operation)

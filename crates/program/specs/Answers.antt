@@ -1,9 +1,8 @@
 -- What is handed on of a reading of the REL file; after it, what the inner functions answer and ask for.
-use Prim.Native.Nat.{ℕ, _+_, _<_, _≤_}
+use Prim.Native.Nat.{ℕ, _<_, _≤_}
 use mathlib.Core.List.{List, []}
-use lib.ListN.{length, set}
+use lib.ListN.{length}
 use Rattle.meaning.specs.declared.Operation.{Operation}
-use Rattle.meaning.specs.declared.Program.{Program}
 use Rattle.meaning.specs.Limits.{words}
 use Rattle.meaning.specs.Records.{programOf}
 use Rattle.fields.specs.declared.Field.{Field}
@@ -21,10 +20,6 @@ programRead e = record { outcome = outcomeOf e; program = programOf (valueOr [] 
 -- a field turned the file away
 abbrev pub refusedBy : Field → ProgramRead
 refusedBy f = record { outcome = outcomeOf (readOf f); program = programOf [] }
-
--- a program with one more step
-abbrev pub addedTo : Program → Operation → Program
-addedTo p o = record { count = p .count + 1; steps = set (p .steps) (p .count) (record { number = p .count; operation = o }) }
 
 -- the numbers that x has room for
 abbrev pub room : Layout → ℕ

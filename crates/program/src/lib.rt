@@ -20,7 +20,7 @@ pub struct ProgramRead {
     pub program: Program,
 }
 
-// A step's operation as it was read, and where reading goes on.
+// A step's operation as it was read, and where reading goes on; SELF stands beside a refusal.
 struct StepRead {
     passed: Field,
     operation: Operation,
@@ -79,31 +79,30 @@ fn operation(code: u16, x: u16, y: u16) -> Operation
     }
 }
 
-// A field turned the step away.
-fn unread(field: Field) -> StepRead
-    ensures { λ r. ⌜ r .passed ≡ field ⌝ }
-{
-    StepRead {
-        passed: field,
-        operation: Operation::Itself,
-    }
-}
-
 fn step(s: &[u8], c: Cursor, k: u8, number: u8) -> StepRead
     ensures { λ r. ⌜ beside (r .passed) (r .operation) ≡ stepRead k number (now (s .entry)) (c .at) ⌝ }
 {
     let code_read = c.byte_up_to(s, rel::LAST_CODE, Reason::Code);
     let Field::Got(code, after_code) = code_read else {
-        return unread(code_read);
+        return StepRead {
+            passed: code_read,
+            operation: Operation::Itself,
+        };
     };
     let layout = rel::layout_of(code);
     let x_read = read_x(s, after_code, layout, k, number);
     let Field::Got(x, after_x) = x_read else {
-        return unread(x_read);
+        return StepRead {
+            passed: x_read,
+            operation: Operation::Itself,
+        };
     };
     let y_read = read_y(s, after_x, layout, number);
     let Field::Got(y, _) = y_read else {
-        return unread(y_read);
+        return StepRead {
+            passed: y_read,
+            operation: Operation::Itself,
+        };
     };
     StepRead {
         passed: y_read,

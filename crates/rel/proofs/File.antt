@@ -1,6 +1,6 @@
 -- The two laws of the program file: what is accepted is what would be written for a legal program; and a legal program, written, reads back.
 use Prim.Native.Nat.{ℕ, zero, suc, _+_, _^_, _<_, _≤_}
-use mathlib.Core.Bool.{true, _&&_}
+use mathlib.Core.Bool.{Bool, true, _&&_}
 use mathlib.Core.List.{List, [], _∷_, _++_, append-nil}
 use mathlib.Core.Path.{_≡_, refl, ap}
 use native.Mathlib.Nat.{add-zero, zero-add}
@@ -17,12 +17,20 @@ use Rattle.meaning.specs.Operations.{LegalOperation, LegalProgram}
 use Rattle.meaning.proofs.Bits.{bits-below, below-bits}
 use Rattle.meaning.proofs.Sets.{below-suc}
 use Rattle.meaning.proofs.Tests.{and-in, and-left, and-right}
-use Rattle.fields.specs.Read.{got, give, _>>=_, byteBelow}
+use Rattle.fields.specs.Read.{Reader, got, give, _>>=_, judged, byteBelow}
 use Rattle.fields.specs.Write.{Bytes, byteOf}
-use Rattle.fields.proofs.Formats.{Reads, Accepts, Takes, reads-bind, reads-last, reads-give, reads-judged, reads-byte, reads-word, reads-header, reads-file, accepts-give, takes-bind, takes-weaken, takes-judged, takes-byte, takes-word, takes-first, takes-file}
+use Rattle.fields.proofs.Formats.{Reads, Accepts, Takes, got-same, bind-out, judge-out, reads-bind, reads-last, reads-give, reads-judged, reads-byte, reads-word, reads-header, reads-file, accepts-give, takes-bind, takes-weaken, takes-judged, takes-byte, takes-word, takes-first, takes-file}
 use Rattle.rel.specs.declared.Layout.{Layout}
 use Rattle.rel.specs.declared.Layout.the-variants.{Zeros, Single, Pair, Number, Mask}
 use Rattle.rel.specs.Rel.{layouts, layoutOf, unused, readX, readY, operationOf, stepRead, stepsRead, program, programFile, laid, coded, stepBytes, stepsBytes, programBytes}
+
+-- what was accepted has passed its test
+pub judged-out : (m : Reader ℕ) (test : ℕ → Bool) (r : Reason) (s : List ℕ) (at : ℕ) {n k : ℕ} → judged m test r s at ≡ got n k → test n ≡ true
+unfolding judged
+judged-out m test r s at h =
+    let (a, i, p, q) = bind-out (m s at) _ h in
+    let (u, j, v, w) = bind-out _ _ q in
+    rw (got-same w .0) at (judge-out at (test a) r s i v .0)
 
 pub range-out : (n limit : ℕ) → leb 1 n && leb n limit ≡ true → (1 ≤ n) × (n ≤ limit)
 range-out n limit t = (leb-true 1 n (and-left (leb 1 n) (leb n limit) t), leb-true n limit (and-right (leb 1 n) (leb n limit) t))

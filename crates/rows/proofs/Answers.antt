@@ -6,13 +6,15 @@ use mathlib.Core.List.{List, [], _∷_, _++_}
 use native.Mathlib.Nat.{add-zero, add-suc, pow-suc}
 use native.Mathlib.Numerals.{one-add}
 use native.Mathlib.Omega.{arith}
+use borrow.Author.Needs.{needs}
 use lib.Dec.{eqb}
 use lib.Count.{ones, ones-step}
-use lib.ListN.{length, getD, set, length-append}
+use lib.ListN.{length, getD, set, length-append, length-set}
 use Rattle.meaning.specs.Sets.{bit, listed}
 use Rattle.meaning.proofs.Sets.{listed-cong}
+use Rattle.writing.specs.Lent.{over}
 use Rattle.writing.specs.Put.{Put}
-use Rattle.writing.proofs.Puts.{put-nothing, put-then, put-byte, put-length}
+use Rattle.writing.proofs.Puts.{put-nothing, put-then, put-byte}
 use Rattle.rows.specs.Rows.{inRow, Next}
 use Rattle.rows.proofs.Bits.{digit, word-bit}
 use Rattle.rows.proofs.Searches.{listed-still}
@@ -63,25 +65,39 @@ count-more row k {n} {r} a b =
     ap length (listed-cong 64 _ _ (word-bit row k)) in
     omega (arith, a, b, bits, tally-split (64 * k) 64 (inRow row), ap (λ (x : ℕ). tally x (inRow row)) next)
 
--- nothing written; one more, where w is the next that passes; and all
-module _ (size : ℕ) (f : ℕ → Bool) where
-  pub listing-none : {limit w : ℕ} (old : List ℕ) → Next limit f 0 w → Put 0 (listed (min w size) f) old old 0
+-- The numbers written so far are those below w, which is the next that passes.
+pub record Listing (limit size : ℕ) (f : ℕ → Bool) (old new : List ℕ) (m w : ℕ) : Type 0 where
+  pub few : m ≤ w
+  pub most : w ≤ limit
+  pub found : w < limit → f w ≡ true
+  pub same : length new ≡ length old
+  pub put : Put 0 (listed (min w size) f) old new m
+
+module _ {limit size : ℕ} {f : ℕ → Bool} {old : List ℕ} where
+  pub listing-none : {w : ℕ} → Next limit f 0 w → Listing limit size f old old 0 w
   unfolding listed
-  listing-none {w = w} old n =
+  listing-none {w} n =
       let e : listed (min w size) f ≡ [] = listed-still 0 (min w size) f (omega arith) (λ x l m. n .none x l (omega arith)) in
-      rw e (put-nothing 0 old)
+      record { few = omega arith; most = n .most; found = n .found; same = refl; put = rw e (put-nothing 0 old) }
 
-  pub listing-more : {limit w v m : ℕ} {old new out : List ℕ} → Put 0 (listed (min w size) f) old new m → w < size → f w ≡ true → size ≤ length old
-      → Next limit f (w + 1) v → out ≡ set new m w → Put 0 (listed (min v size) f) old out (m + 1)
-  unfolding listed
-  listing-more {w = w} {v = v} {m = m} {old} {new} {out} s l h r n e =
-      let at-w : min w size ≡ w = omega arith in
-      let vs : List ℕ = listed w f in
-      let now : Put 0 vs old new m = rw at-w at s in
-      let few : length vs ≤ w = tally-most w f in
-      let past : listed (min v size) f ≡ vs ++ (w ∷ []) =
-      listed-still (suc w) (min v size) f (omega (arith, n .ahead)) (λ x p q. n .none x (omega arith) (omega arith)) ∙ ap (λ (b : Bool). vs ++ cond b (w ∷ []) []) h in
-      rw (past, e) (put-then (omega arith) now (put-byte m w new (omega (arith, now .behind, put-length (omega arith) now))))
+  module _ {new : List ℕ} {m w : ℕ} (s : Listing limit size f old new m w) (fits : size ≤ limit) (room : size ≤ length old) where
+    pub listing-more : {v x : ℕ} → w < size → Next limit f (w + 1) v → x ≡ w → Listing limit size f old (set new m x) (m + 1) v
+    unfolding listed
+    listing-more {v} l n e =
+        let at-w : min w size ≡ w = omega arith in
+        let vs : List ℕ = listed w f in
+        let now : Put 0 vs old new m = rw at-w at (s .put) in
+        let past : listed (min v size) f ≡ vs ++ (w ∷ []) =
+        listed-still (suc w) (min v size) f (omega (arith, n .ahead)) (λ x p q. n .none x (omega arith) (omega arith)) ∙ ap (λ (b : Bool). vs ++ cond b (w ∷ []) []) (s .found (omega arith)) in
+        rw e record {
+          few = omega (arith, s .few, n .ahead);
+          most = n .most;
+          found = n .found;
+          same = length-set new m w ∙ s .same;
+          put = rw past (put-then (omega arith) now (put-byte m w new (omega (arith, s .few, s .same))));
+        }
 
-  pub listing-all : {m : ℕ} {old new : List ℕ} (w : ℕ) → size ≤ w → Put 0 (listed (min w size) f) old new m → Put 0 (listed size f) old new m
-  listing-all w l s = let e : min w size ≡ size = omega arith in rw e at s
+    pub listing-all : size ≤ w → new ≡ over 0 (listed size f) old
+    listing-all l = let e : min w size ≡ size = omega arith in (rw e at (s .put)) .there
+
+pub ruleset list-laws = (listing-none, listing-more, listing-all, needs)

@@ -1,14 +1,14 @@
 -- Laws of a number's bits: shifted, mixed, the lowest that is set, and the number that they make; and of the words of a row.
 use Prim.Native.Nat.{ℕ, zero, suc, _+_, _-_, _*_, _/_, _%_, _^_, _≤_, _<_, suc-le-suc}
 use mathlib.Core.Path.{_≡_, refl, sym, ap, ap₂, _∙_}
-use mathlib.Core.Bool.{Bool, true, false, not, _&&_, and-true, and-false, cond}
+use mathlib.Core.Bool.{Bool, true, false, not, _&&_, and-true, and-self, cond}
 use mathlib.Core.List.{List, [], _∷_}
 use native.Mathlib.Nat.{div-div-eq-div-mul, pow-succ', div-one, pow-suc, zero-add, suc-add, one-mul, not-suc-le-zero}
 use native.Mathlib.Omega.{arith}
 use borrow.Author.Needs.{needs}
-use borrow.Author.Tests.{eq-eqb, ne-eqb, eqb-true}
-use lib.Dec.{eqb, eqb·zero-suc, eqb·suc-zero, eqb·suc-suc}
-use lib.Pow.{shl-exact, pow-pos}
+use borrow.Author.Tests.{eq-eqb, ne-eqb, eqb-true, eqb-false}
+use lib.Dec.{eqb, eqb·suc-zero, eqb·suc-suc}
+use lib.Pow.{shl-exact}
 use lib.ListN.{getD}
 use mir.Syntax.{w64}
 use mir.Val.{Val, Fits}
@@ -16,7 +16,7 @@ use denote.Array.{Array, each}
 use denote.Plain.{UInt}
 use denote.Shadow.{shadow}
 use denote.Laws.{Is}
-use lib.Bits.{bitAnd, bitOr, and-lt, or-lt}
+use lib.Bits.{bitAnd, bitOr, and-lt, or-lt, and-le-r}
 use lib.Count.{trailingZeros, under}
 use Rattle.meaning.specs.Sets.{bit, mask}
 use Rattle.meaning.proofs.Sets.{bit-none}
@@ -83,11 +83,14 @@ lowest-by k m t zero e l h = record { below = suc-le-suc (h refl .below); isset 
 lowest-by k m t (suc zero) e l h = record { below = omega arith; isset = eq-eqb (m % 2) 1 e; zeros = λ i q. absurd (not-suc-le-zero q) }
 lowest-by k m t (suc (suc d)) e l h = absurd (omega arith)
 
-pub lowest-is : (k m : ℕ) → 0 < m → m < 2 ^ k → Lowest k m (trailingZeros k m)
+lowest-is : (k m : ℕ) → 0 < m → m < 2 ^ k → Lowest k m (trailingZeros k m)
 unfolding trailingZeros
 lowest-is zero m p l = absurd (omega arith)
 lowest-is (suc k) m p l =
     lowest-by k m (trailingZeros k (m / 2)) (m % 2) refl (omega arith) (λ e. lowest-is k (m / 2) (omega arith) (omega (arith, pow-suc 2 k)))
+
+pub lowest-found : {k m t : ℕ} → 0 < m → m < 2 ^ k → t ≡ trailingZeros k m → Lowest k m t
+lowest-found {k} {m} p l e = rw e (lowest-is k m p l)
 
 -- the bits of a power of 2
 pub bit-power : (k : ℕ) → bit (2 ^ k) k ≡ true
@@ -108,32 +111,25 @@ bit-power-other (suc k) (suc i) ne =
 pub shifted-one : (n k : ℕ) → k < n → 1 * 2 ^ k % 2 ^ n ≡ 2 ^ k
 shifted-one n k l = shl-exact {a = 1} 1 k n (omega arith) (omega arith) ∙ one-mul (2 ^ k)
 
--- a number is at least what each of its bits stands for, and without that it has its other bits
-pub bit-least : (t m : ℕ) → bit m t ≡ true → 2 ^ t ≤ m
+-- a number, without its lowest bit that is set, as the code takes it away
+rest-bit : (t i m : ℕ) → bit m t ≡ true → ((j : ℕ) → j < t → bit m j ≡ false) → bit m i && bit (m - 1) i ≡ bit m i && not (eqb i t)
 unfolding bit
-bit-least zero m h = let e = eqb-true (m % 2) 1 h in omega arith
-bit-least (suc t) m h = omega (arith, pow-suc 2 t, bit-least t (m / 2) h)
-
-pub bit-without : (t i m : ℕ) → bit m t ≡ true → bit (m - 2 ^ t) i ≡ bit m i && not (eqb i t)
-unfolding bit
-bit-without zero zero m h =
-    let e = eqb-true (m % 2) 1 h in
-    let low : (m - 1) % 2 ≡ 0 = omega arith in
-    rw low (sym (and-false (bit m 0)))
-bit-without zero (suc i) m h =
+rest-bit zero zero m h z = let e = eqb-true (m % 2) 1 h in let low : (m - 1) % 2 ≡ 0 = omega arith in rw low
+rest-bit zero (suc i) m h z =
     let e = eqb-true (m % 2) 1 h in
     let half : (m - 1) / 2 ≡ m / 2 = omega arith in
-    rw (half, eqb·suc-zero i) (sym (and-true _))
-bit-without (suc t) zero m h =
-    let low : (m - 2 ^ suc t) % 2 ≡ m % 2 = omega (arith, pow-suc 2 t, bit-least t (m / 2) h) in
-    rw (low, eqb·zero-suc t) (sym (and-true _))
-bit-without (suc t) (suc i) m h =
-    let half : (m - 2 ^ suc t) / 2 ≡ m / 2 - 2 ^ t = omega (arith, pow-suc 2 t, bit-least t (m / 2) h) in
-    rw (half, eqb·suc-suc i t) (bit-without t i (m / 2) h)
+    rw (half, eqb·suc-zero i) (and-self (bit (m / 2) i) ∙ sym (and-true (bit (m / 2) i)))
+rest-bit (suc t) zero m h z = rw (z 0 (omega arith))
+rest-bit (suc t) (suc i) m h z =
+    let e = eqb-false (m % 2) 1 (z 0 (omega arith)) in
+    let half : (m - 1) / 2 ≡ m / 2 - 1 = omega arith in
+    rw (half, eqb·suc-suc i t) (rest-bit t i (m / 2) h (λ j l. z (suc j) (omega arith)))
 
--- what the lowest bit stands for, as the code says it
-pub lowest-part : {n m t : ℕ} → Lowest n m t → (0 < 1 * 2 ^ t % 2 ^ n) × (1 * 2 ^ t % 2 ^ n ≤ m)
-lowest-part {n} {m} {t} low = rw (shifted-one n t (low .below)) (pow-pos t, bit-least t m (low .isset))
+pub bit-rest : {n m t : ℕ} → Lowest n m t → (i : ℕ) → bit (bitAnd m (m - 1)) i ≡ bit m i && not (eqb i t)
+bit-rest {m = m} {t} low i = bit-and i m (m - 1) ∙ rest-bit t i m (low .isset) (low .zeros)
+
+pub rest-less : (m : ℕ) → (m ≡ 0 → ⊥) → bitAnd m (m - 1) < m
+rest-less m some = omega (arith, and-le-r m (m - 1))
 
 -- bit i of word k of a row
 pub word-bit : (row : List ℕ) (k i : ℕ) → i < 64 → inRow row (64 * k + i) ≡ bit (getD row k 0) i

@@ -5,7 +5,9 @@ use mathlib.Core.Bool.{Bool, true, false, not, _&&_, _||_, and-true, and-false, 
 use mathlib.Core.List.{List}
 use native.Mathlib.Nat.{add-zero, add-suc, mul-add}
 use native.Mathlib.Omega.{arith}
+use borrow.Author.Needs.{needs}
 use borrow.Author.Tests.{eq-eqb, ne-eqb, lt-ltb}
+use lib.Bits.{bitAnd}
 use lib.Dec.{eqb}
 use lib.ListN.{length, getD}
 use Rattle.meaning.specs.Sets.{any, bit}
@@ -13,9 +15,9 @@ use Rattle.meaning.specs.Relations.{Relation}
 use Rattle.meaning.proofs.Sets.{any-cong, bit-none, bit-mask}
 use Rattle.rows.specs.declared.Mix.{Mix}
 use Rattle.rows.specs.declared.Mix.the-variants.{Either, Both, First}
-use Rattle.rows.specs.Rows.{bitIn, inRow, rowsFrom, rowsAt, Bits, gathered, mixes, mixedWord, Lowest}
+use Rattle.rows.specs.Rows.{bitIn, inRow, inBytes, stretch, rowsFrom, rowsAt, Bits, gathered, mixes, mixedWord, Lowest}
 use Rattle.rows.proofs.Cases.{by-order, by-equal}
-use Rattle.rows.proofs.Bits.{shifted-one, bit-without, word-bit}
+use Rattle.rows.proofs.Bits.{bit-rest, rest-less, word-bit}
 use Rattle.rows.proofs.Rows.{row-end}
 use Rattle.rows.proofs.Searches.{any-still}
 
@@ -64,29 +66,36 @@ any-split m (suc n) f =
     ap (λ (k : ℕ). any k f) (add-suc m n) ∙ ap (λ (b : Bool). f (m + n) || b) (any-split m n f)
     ∙ or-swap (f (m + n)) (any m f) _
 
--- What is taken in by the bits of `left` onto `all` stays the same where the row of the lowest is taken in and its bit is gone.
-module _ (size : ℕ) (r : Relation) where
+-- Rows from a place on, by the bits of a word: what those that are left take in, onto what is taken in already, is what
+-- all of them take in.
+module _ (size width : ℕ) (bytes : List ℕ) (at : ℕ) where
   abbrev hit : ℕ → ℕ → ℕ → Bool
-  hit m w u = bit m u && r u w
+  hit m w u = bit m u && rowsFrom width bytes at u w
 
-  hit-lowest : (m t w : ℕ) → t < size → bit m t ≡ true → any size (hit m w) ≡ r t w || any size (hit (m - 2 ^ t) w)
-  hit-lowest m t w l h =
-      rw h at (any-apart size t (hit m w) (hit (m - 2 ^ t) w) l
-      (λ u. rw (bit-without t u m h, and-assoc (bit m u) (not (eqb u t)), and-comm (not (eqb u t)), ← and-assoc)))
+  hit-lowest : {m t : ℕ} (w : ℕ) → Lowest size m t → any size (hit m w) ≡ rowsFrom width bytes at t w || any size (hit (bitAnd m (m - 1)) w)
+  hit-lowest {m} {t} w low =
+      rw (low .isset) at (any-apart size t (hit m w) (hit (bitAnd m (m - 1)) w) (low .below)
+      (λ u. rw (bit-rest low u, and-assoc (bit m u) (not (eqb u t)), and-comm (not (eqb u t)), ← and-assoc)))
 
-  pub gathered-lowest : {left t : ℕ} {row more : List ℕ} (all : List ℕ) → Lowest size left t → Bits row (r t) → Bits more (λ w. mixes Either (inRow all w) (inRow row w))
-      → (w : ℕ) → gathered size r (bit (left - 1 * 2 ^ t % 2 ^ size)) (inRow more) w ≡ gathered size r (bit left) (inRow all) w
-  unfolding gathered mixes
-  gathered-lowest {left} {t} all low b m w =
-      rw (shifted-one size t (low .below), m .bits w, b .bits w, or-assoc, hit-lowest left t w (low .below) (low .isset))
+  pub record Gathering (which : ℕ) (start : List ℕ) (left : ℕ) (all : List ℕ) : Type 0 where
+    pub same : (w : ℕ) → gathered size (rowsFrom width bytes at) (bit left) (inRow all) w ≡ gathered size (rowsFrom width bytes at) (bit which) (inRow start) w
 
-  pub gathered-done : {left : ℕ} {all : List ℕ} {f : ℕ → Bool} → left ≡ 0 → ((w : ℕ) → gathered size r (bit left) (inRow all) w ≡ f w) → Bits all f
-  unfolding gathered any
-  gathered-done {left} {all} e h = record { bits = λ w. sym (nothing w) ∙ h w }
-    where
-      nothing : (w : ℕ) → gathered size r (bit left) (inRow all) w ≡ inRow all w
-      nothing w =
-          rw (e, any-still 0 size (hit 0 w) (omega arith) (λ u k l. rw (bit-none u))) (or-false (inRow all w))
+  pub gathering-none : (which : ℕ) (start : List ℕ) → Gathering which start which start
+  gathering-none which start = record { same = λ w. refl }
+
+  module _ {which left : ℕ} {start all : List ℕ} (g : Gathering which start left all) where
+    pub gathering-more : {t : ℕ} {row more : List ℕ} → Lowest size left t → Bits row (inBytes (stretch width bytes (at + width * t)))
+        → Bits more (λ w. mixes Either (inRow all w) (inRow row w)) → Gathering which start (bitAnd left (left - 1)) more
+    unfolding gathered mixes rowsFrom
+    gathering-more low b m = record { same = λ w. rw (m .bits w, b .bits w, or-assoc, ← hit-lowest w low) (g .same w) }
+
+    pub gathering-all : left ≡ 0 → Bits all (gathered size (rowsFrom width bytes at) (bit which) (inRow start))
+    unfolding gathered any
+    gathering-all e = record { bits = λ w. sym (nothing w) ∙ g .same w }
+      where
+        nothing : (w : ℕ) → gathered size (rowsFrom width bytes at) (bit left) (inRow all) w ≡ inRow all w
+        nothing w =
+            rw (e, any-still 0 size (hit 0 w) (omega arith) (λ u k l. rw (bit-none u))) (or-false (inRow all w))
 
 -- The rows of a room, by the words of the row that names them: before the first word none is taken in, and then one word more.
 module _ (width : ℕ) (bytes : List ℕ) (base : ℕ) (which : List ℕ) (f : ℕ → Bool) where
@@ -111,3 +120,5 @@ module _ (width : ℕ) (bytes : List ℕ) (base : ℕ) (which : List ℕ) (f : �
 
       split : (w : ℕ) → any (64 * (k + 1)) (named w) ≡ any (64 * k) (named w) || any 64 (λ u. named w (64 * k + u))
       split w = let next : 64 * (k + 1) ≡ 64 * k + 64 = omega arith in rw next (any-split (64 * k) 64 (named w))
+
+pub ruleset gather-laws = (gathering-none, gathering-more, gathering-all, rest-less, needs)

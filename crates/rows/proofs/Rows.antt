@@ -3,20 +3,26 @@ use Prim.Native.Nat.{ℕ, _+_, _-_, _*_, _/_, _%_, _^_, _≤_, _<_}
 use mathlib.Core.Path.{_≡_, refl, sym, ap, ap₂, _∙_}
 use mathlib.Core.Bool.{Bool, true, false, _||_, or-false}
 use mathlib.Core.List.{List}
-use native.Mathlib.Nat.{mod-lt, div-add-mod'}
+use native.Mathlib.Nat.{mod-lt, div-add-mod', mul-le-mul-left}
 use borrow.Author.Tests.{eq-eqb, ne-eqb, lt-ltb}
 use native.Mathlib.Omega.{arith}
 use borrow.Author.Needs.{needs}
+use mir.Syntax.{w64}
+use mir.Val.{Val}
+use denote.Array.{Array}
+use denote.Plain.{UInt}
+use denote.Laws.{Is}
 use lib.Dec.{eqb}
 use lib.Bits.{bitOr}
 use lib.ListN.{length, getD, set, replicate, length-replicate, getD-replicate, List·getD-eq-default}
 use lib.Seq.{getD-set-same, getD-set-other}
+use Rattle.meaning.specs.Limits.{rowBits, roomBytes}
 use Rattle.meaning.specs.Sets.{bit}
 use Rattle.meaning.proofs.Sets.{bit-none}
-use Rattle.rows.specs.Rows.{bitIn, inRow, inBytes, Bits, including, stretch, rowsAt, Lowest, RowMade, Next}
+use Rattle.rows.specs.Rows.{bitIn, inRow, inBytes, Bits, including, stretch, rowsAt, Placed, Lowest, RowMade, Next}
 use Rattle.rows.proofs.Cases.{by-order, by-equal}
 use Rattle.meaning.proofs.Bits.{bits-below, bit-or}
-use Rattle.rows.proofs.Bits.{bit-shifted, shifted-one, bit-power, bit-power-other}
+use Rattle.rows.proofs.Bits.{bit-shifted, shifted-one, bit-power, bit-power-other, words-fit}
 use Rattle.rows.proofs.Bytes.{kept-all, kept-set, stretch-length, stretch-at, stretch-past, stretch-set}
 
 -- past its end a row has no bits
@@ -32,6 +38,13 @@ row-bit width xs at x l = ap (λ (b : ℕ). bit b (x % 8)) (stretch-at width xs 
 pub row-past : (width : ℕ) (xs : List ℕ) (at x : ℕ) → width ≤ x / 8 → inBytes (stretch width xs at) x ≡ false
 unfolding bitIn
 row-past width xs at x l = ap (λ (b : ℕ). bit b (x % 8)) (stretch-past width xs at (x / 8) l) ∙ bit-none (x % 8)
+
+-- a row ends where the next starts, and the last ends inside the room
+pub row-order : (width u v : ℕ) → u < v → width * u + width ≤ width * v
+row-order width u v l = omega (arith, mul-le-mul-left width l)
+
+pub row-placed : (width base v : ℕ) → v < rowBits width → Placed width base v (base + width * v)
+row-placed width base v l = record { is = refl; below = l; inside = omega (arith, row-order width v (rowBits width) l) }
 
 -- a row of a room
 pub row-read : (width : ℕ) (xs : List ℕ) (base u : ℕ) {row : List ℕ} → u < 8 * width → Bits row (inBytes (stretch width xs (base + width * u))) → Bits row (rowsAt width xs base u)
@@ -101,44 +114,60 @@ module _ (width : ℕ) (xs : List ℕ) (at w : ℕ) (there : Bool) where
       others = kept-set (at + w / 8) byte (omega arith) (omega arith) kept-all;
     }
 
--- none was found up to the limit
-pub next-end : {f : ℕ → Bool} {limit from w : ℕ} → from ≤ w → w ≤ limit → limit ≤ w → ((x : ℕ) → from ≤ x → x < w → f x ≡ false) → Next limit f from limit
-next-end a b c none = record {
-  ahead = omega arith;
-  most = omega arith;
-  none = λ x l m. none x l (omega arith);
-  found = λ h. absurd (omega arith);
-}
+-- The search for the next bit of a row has reached w.
+pub record Seeking (limit : ℕ) (row : List ℕ) (from w : ℕ) : Type 0 where
+  pub ahead : from ≤ w
+  pub most : w ≤ limit
+  pub none : (x : ℕ) → from ≤ x → x < w → inRow row x ≡ false
 
--- A turn of the search for the next bit: w is reached, and word is the one that holds it.
-module _ (words : ℕ) (row : List ℕ) (from w word : ℕ) (is : word ≡ getD row (w / 64) 0) (none : (x : ℕ) → from ≤ x → x < w → inRow row x ≡ false) where
-  -- the bits that are left of the word, from w on
-  rest-bit : (j : ℕ) → w % 64 + j < 64 → inRow row (w + j) ≡ bit (word / 2 ^ (w % 64)) j
+pub seeking-start : (row : List ℕ) {limit from : ℕ} → from ≤ limit → Seeking limit row from from
+seeking-start row l = record { ahead = omega arith; most = l; none = λ x a b. absurd (omega arith) }
+
+module _ {limit from w : ℕ} {row : List ℕ} (s : Seeking limit row from w) where
+  pub seeking-end : limit ≤ w → Next limit (inRow row) from limit
+  seeking-end l = record {
+    ahead = omega (arith, s .ahead, s .most);
+    most = omega arith;
+    none = λ x a b. s .none x a (omega arith);
+    found = λ h. absurd (omega arith);
+  }
+
+  -- what is left, from w on, of the word that holds it
+  abbrev rest : ℕ
+  rest = getD row (w / 64) 0 / 2 ^ (w % 64)
+
+  rest-bit : (j : ℕ) → w % 64 + j < 64 → inRow row (w + j) ≡ bit rest j
   unfolding bitIn
   rest-bit j l =
       let q : (w + j) / 64 ≡ w / 64 = omega arith in
       let r : (w + j) % 64 ≡ w % 64 + j = omega arith in
-      ap₂ (λ (k i : ℕ). bit (getD row k 0) i) q r ∙ ap (λ (b : ℕ). bit b (w % 64 + j)) (sym is) ∙ sym (bit-shifted (w % 64) j word)
+      ap₂ (λ (k i : ℕ). bit (getD row k 0) i) q r ∙ sym (bit-shifted (w % 64) j (getD row (w / 64) 0))
 
-  -- none of them below j is set, nor is one before w
-  none-before : (j : ℕ) → w % 64 + j ≤ 64 → ((i : ℕ) → i < j → bit (word / 2 ^ (w % 64)) i ≡ false) → (x : ℕ) → from ≤ x → x < w + j → inRow row x ≡ false
+  -- no bit of it below j is set, nor is one before w
+  none-before : (j : ℕ) → w % 64 + j ≤ 64 → ((i : ℕ) → i < j → bit rest i ≡ false) → (x : ℕ) → from ≤ x → x < w + j → inRow row x ≡ false
   none-before j l zeros x a b =
-      by-order x w (none x a) λ h.
+      by-order x w (s .none x a) λ h.
       let e : w + (x - w) ≡ x = omega arith in
       ap (inRow row) (sym e) ∙ rest-bit (x - w) (omega arith) ∙ zeros (x - w) (omega arith)
 
-  pub next-none : word / 2 ^ (w % 64) ≡ 0 → (x : ℕ) → from ≤ x → x < (w / 64 + 1) * 64 → inRow row x ≡ false
-  next-none e x a b =
-      none-before (64 - w % 64) (omega arith) (λ i l. ap (λ (m : ℕ). bit m i) e ∙ bit-none i) x a (omega arith)
+  module _ (whole : limit % 64 ≡ 0) (l : w < limit) where
+    pub seeking-more : rest ≡ 0 → Seeking limit row from ((w / 64 + 1) * 64)
+    seeking-more e = record {
+      ahead = omega (arith, s .ahead);
+      most = omega arith;
+      none = λ x a b. none-before (64 - w % 64) (omega arith) (λ i m. ap (λ (n : ℕ). bit n i) e ∙ bit-none i) x a (omega arith);
+    }
 
-  pub next-found : {k t : ℕ} → word < 2 ^ 64 → from ≤ w → w < 64 * words → Lowest k (word / 2 ^ (w % 64)) t → Next (64 * words) (inRow row) from (w + t)
-  next-found {k} {t} l a b low =
-      let small : w % 64 + t < 64 = bits-below 64 word l (w % 64 + t) (sym (bit-shifted (w % 64) t word) ∙ low .isset) in
-      record {
-        ahead = omega arith;
-        most = omega arith;
-        none = none-before t (omega arith) (low .zeros);
-        found = λ h. rest-bit t small ∙ low .isset;
-      }
+    pub seeking-found : {words k t : ℕ} {vs : List Val} → Is (Array (UInt w64) words) row vs → Lowest k rest t → Next limit (inRow row) from (w + t)
+    seeking-found {words} {t = t} fits low =
+        let small : w % 64 + t < 64 = bits-below 64 (getD row (w / 64) 0) (words-fit words row fits (w / 64)) (w % 64 + t) (sym (bit-shifted (w % 64) t _) ∙ low .isset) in
+        record {
+          ahead = omega (arith, s .ahead);
+          most = omega arith;
+          none = none-before t (omega arith) (low .zeros);
+          found = λ h. rest-bit t small ∙ low .isset;
+        }
+
+pub ruleset next-laws = (seeking-start, seeking-end, seeking-more, seeking-found, needs)
 
 pub ruleset laws = (with-none, put-none, put-one, needs)

@@ -10,6 +10,7 @@ use borrow.Author.Needs.{needs}
 use lib.Bits.{bitOr, and-mask, or-block, or-zero-r}
 use lib.ListN.{length, getD}
 use lib.Pow.{pow-pos, shl-exact}
+use Rattle.meaning.specs.Limits.{small}
 use Rattle.meaning.specs.Sets.{bit, mask}
 use Rattle.meaning.proofs.Tests.{fails}
 use Rattle.meaning.proofs.Sets.{bit-none, bit-mask}
@@ -92,19 +93,19 @@ row-words words row xs at e h w = by-order (w / 64) words inside outside
 
 -- such a row of two words
 two-words : (row xs : List ℕ) (at : ℕ) → length row ≡ 2 → ((i : ℕ) → i < 64 → bit (getD row 0 0) i ≡ inBytes (stretch 8 xs at) i)
-    → ((i : ℕ) → i < 64 → bit (getD row 1 0) i ≡ inBytes (stretch 8 xs (at + 8)) i) → (w : ℕ) → inRow row w ≡ inBytes (stretch 16 xs at) w
+    → ((i : ℕ) → i < 64 → bit (getD row 1 0) i ≡ inBytes (stretch 8 xs (at + 8)) i) → (w : ℕ) → inRow row w ≡ inBytes (stretch (small .row) xs at) w
 two-words row xs at e a b =
     row-words 2 row xs at e λ k i l m.
     digit (λ j. bit (getD row j 0) i ≡ inBytes (stretch 8 xs (at + 8 * j)) i) (rw add-zero (a i m)) (b i m) k l
 
 -- a row that is read
 pub row-taken : (xs : List ℕ) (at : ℕ) {x y : ℕ} → x ≡ mask 64 (inBytes (stretch 8 xs at)) → y ≡ mask 64 (inBytes (stretch 8 xs (at + 8)))
-    → Bits (x ∷ y ∷ []) (inBytes (stretch 16 xs at))
+    → Bits (x ∷ y ∷ []) (inBytes (stretch (small .row) xs at))
 row-taken xs at {x} {y} p q = record { bits = two-words (x ∷ y ∷ []) xs at refl (λ i m. rw p (bit-mask 64 _ i m)) (λ i m. rw q (bit-mask 64 _ i m)) }
 
 -- and one that is written: the second word leaves the first as it is
-pub row-stored : {xs ys zs : List ℕ} {at : ℕ} (row : List ℕ) → length row ≡ 2 → at + 16 ≤ length xs → RowMade 8 xs ys at (bit (getD row 0 0)) → RowMade 8 ys zs (at + 8) (bit (getD row 1 0))
-    → RowMade 16 xs zs at (inRow row)
+pub row-stored : {xs ys zs : List ℕ} {at : ℕ} (row : List ℕ) → length row ≡ 2 → at + small .row ≤ length xs → RowMade 8 xs ys at (bit (getD row 0 0)) → RowMade 8 ys zs (at + 8) (bit (getD row 1 0))
+    → RowMade (small .row) xs zs at (inRow row)
 row-stored {xs} {ys} {zs} {at} row e l a b =
     let kept : stretch 8 zs at ≡ stretch 8 ys at = stretch-kept 8 at (b .others) (omega (arith, a .others .same)) (inl (omega arith)) in
     record {

@@ -1,10 +1,11 @@
--- Rows of bits. A row has 128: in the work area they stand in 16 bytes, in hand in two words, the lowest first in both.
+-- Rows of bits: in the work area they stand in bytes, in hand in words, the lowest first in both.
 use Prim.Native.Nat.{ℕ, _+_, _*_, _/_, _%_, _≤_, _<_}
 use mathlib.Core.Path.{_≡_}
 use mathlib.Core.Bool.{Bool, true, false, not, _&&_, _||_}
 use mathlib.Core.List.{List}
 use lib.Dec.{eqb, ltb}
 use lib.ListN.{length, getD, take, drop}
+use Rattle.meaning.specs.Limits.{rowBits, roomBytes}
 use Rattle.meaning.specs.Sets.{any, bit, mask}
 use Rattle.meaning.specs.Relations.{Relation}
 use Rattle.rows.specs.declared.Mix.{Mix}
@@ -57,7 +58,13 @@ rowsFrom width bytes at v w = inBytes (stretch width bytes (at + width * v)) w
 
 -- the relation whose room starts at base: as many rows as a row has bits
 unfoldable pub rowsAt : ℕ → List ℕ → ℕ → Relation
-rowsAt width bytes base v w = ltb v (8 * width) && inBytes (stretch width bytes (base + width * v)) w
+rowsAt width bytes base v w = ltb v (rowBits width) && inBytes (stretch width bytes (base + width * v)) w
+
+-- where the row of v stands, in the room at base: it ends inside the room
+pub record Placed (width base v at : ℕ) : Type 0 where
+  pub is : at ≡ base + width * v
+  pub below : v < rowBits width
+  pub inside : at + width ≤ base + roomBytes width
 
 -- each number that passes, to itself
 unfoldable pub diagonal : (ℕ → Bool) → Relation
@@ -78,6 +85,10 @@ pub record Written (old new : List ℕ) (from size : ℕ) (f : ℕ → ℕ) : Ty
 pub record RowMade (width : ℕ) (old new : List ℕ) (at : ℕ) (f : ℕ → Bool) : Type 0 where
   pub bits : (w : ℕ) → inBytes (stretch width new at) w ≡ f w
   pub others : Kept old new at width
+
+-- w is put into the row at a place, where it is to be there, however wide the row is
+pub record BitPut (old new : List ℕ) (at w : ℕ) (there : Bool) : Type 0 where
+  pub row : (width : ℕ) → w < rowBits width → at + width ≤ length old → RowMade width old new at (including (inBytes (stretch width old at)) w there)
 
 -- t is the lowest bit of a number of so many bits that is set
 pub record Lowest (limit number t : ℕ) : Type 0 where

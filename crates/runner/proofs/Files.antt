@@ -23,10 +23,10 @@ use Rattle.graph.specs.declared.GraphRead.{GraphRead}
 use Rattle.graph.specs.Gra.{graphFile}
 use Rattle.graph.specs.Answers.{graphRead}
 use Rattle.graph.proofs.Held.{graph-turned, graph-held, graph-legal}
-use Rattle.edg.specs.Edg.{tablesFile}
-use Rattle.edg.proofs.File.{tables-read}
+use Rattle.tables.specs.Edg.{tablesFile}
+use Rattle.tables.proofs.File.{tables-read}
 use Rattle.program.specs.declared.ProgramRead.{ProgramRead}
-use Rattle.rel.specs.Rel.{programFile}
+use Rattle.program.specs.Rel.{programFile}
 use Rattle.program.specs.Answers.{programRead}
 use Rattle.program.proofs.Held.{program-turned, program-held, program-count, program-legal}
 use Rattle.writing.specs.Lent.{turnedAway}

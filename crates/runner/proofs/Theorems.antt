@@ -14,8 +14,8 @@ use Rattle.meaning.specs.Relations.{at}
 use Rattle.meaning.proofs.Listed.{Lists, listed-lists}
 use Rattle.fields.specs.Read.{got}
 use Rattle.graph.specs.Gra.{graphFile}
-use Rattle.edg.specs.Edg.{tablesFile}
-use Rattle.rel.specs.Rel.{programFile}
+use Rattle.tables.specs.Edg.{tablesFile}
+use Rattle.program.specs.Rel.{programFile}
 use Rattle.writing.specs.Lent.{accepted, over}
 use Rattle.writing.proofs.Puts.{over-front, over-length}
 use Rattle.runner.specs.Layout.{roomBytes, workByte, overwritten}

@@ -15,8 +15,8 @@ use Rattle.meaning.specs.Documents.{View, view}
 use Rattle.meaning.specs.Operations.{answer}
 use Rattle.fields.specs.Read.{Read, got, refused, bind, pick}
 use Rattle.graph.specs.Gra.{graphFile}
-use Rattle.edg.specs.Edg.{tablesFile}
-use Rattle.rel.specs.Rel.{programFile}
+use Rattle.tables.specs.Edg.{tablesFile}
+use Rattle.program.specs.Rel.{programFile}
 use Rattle.writing.specs.Lent.{accepted, turnedAway, over}
 use Rattle.runner.specs.Layout.{roomBytes, workByte, overwritten}
 

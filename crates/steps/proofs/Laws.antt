@@ -19,7 +19,7 @@ use Rattle.writing.specs.Put.{Put}
 use Rattle.writing.proofs.Puts.{over-more, put-then, put-length}
 use Rattle.steps.specs.declared.Place.{Place}
 use Rattle.steps.specs.declared.Operator.{Operator}
-use Rattle.steps.specs.Writes.{applied, onto, Holds, Writes, Goes, Room, Masked, Behind, Below}
+use Rattle.steps.specs.Writes.{applied, onto, Holds, Writes, Goes, Room}
 
 steps-more : (os : List Operation) (o : Operation) → stepsBytes (os ++ (o ∷ [])) ≡ stepsBytes os ++ stepBytes o
 unfolding stepsBytes
@@ -116,16 +116,15 @@ module _ {K next n : ℕ} {old x new : List ℕ} {mid to : Place} where
   unfolding onto
   closed-goes types p q = goes-as refl refl (p .kinds) (p .at) (onto-goes p (λ _ b. Closure b) q)
 
-pub below-goes : (types : ℕ) {old x y new : List ℕ} {left closed either joined to : Place}
+pub below-goes : (types : ℕ) {old x y new : List ℕ} {left closed either joined : Place}
     → Goes (then Closure (step (Table types))) 2 (left .kinds) (left .at) old x (left .steps) closed
     → Goes (onto Union (step Itself)) 2 (closed .kinds) (closed .at) x y (closed .steps) either
     → Goes (step (Join (left .steps - 1) (either .steps - 1))) 1 (either .kinds) (either .at) y new (either .steps) joined
-    → to ≡ record { kinds = bitOr (left .kinds) types; at = joined .at; steps = joined .steps }
-    → Goes (onto Join (descend types)) 5 (bitOr (left .kinds) types) (left .at) old new (left .steps) to
+    → let K = bitOr (left .kinds) types in Goes (onto Join (descend types)) 5 K (left .at) old new (left .steps) (record { kinds = K; at = joined .at; steps = joined .steps })
 unfolding descend thenBoth onto
-below-goes types p q r i =
+below-goes types p q r =
     let s = onto-goes (after-goes p q) Join r in
-    rw i (record { writes = s .writes; steps = s .steps; kinds = refl; at = s .at ∙ q .at ∙ p .at; same = s .same })
+    record { writes = s .writes; steps = s .steps; kinds = refl; at = s .at ∙ q .at ∙ p .at; same = s .same }
 
 -- room for some of the steps that there is room for
 pub room-less : {m n room o from to : ℕ} → Room m room from → to + n ≤ from + m → o ≡ room → Room n o to

@@ -39,17 +39,6 @@ fn applied(operator: Operator, a: u8, b: u8) -> Operation
     }
 }
 
-// The same place, with other kinds.
-pub fn among(place: Place, kinds: u32) -> Place
-    ensures { λ r. ⌜ r ≡ record { kinds = kinds; at = place .at; steps = place .steps } ⌝ }
-{
-    Place {
-        kinds,
-        at: place.at,
-        steps: place.steps,
-    }
-}
-
 // The number of the last step.
 fn last(place: Place) -> u8
     requires { ⌜ 1 ≤ place .steps ⌝ }
@@ -119,5 +108,9 @@ pub fn below(types: u32, left: Place, out: &mut [u8]) -> Place
     let closed = closed(types, left, out);
     let either = with_itself(Operator::Union, closed, out);
     let joined = combine(Operator::Join, left, either, out);
-    among(joined, left.kinds | types)
+    Place {
+        kinds: left.kinds | types,
+        at: joined.at,
+        steps: joined.steps,
+    }
 }

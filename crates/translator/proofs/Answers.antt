@@ -1,6 +1,6 @@
 -- One law for each answer of the translator: the first refusal met, or the program in the buffer.
 use Prim.Native.Nat.{ℕ, _+_, _*_, _≤_, _<_}
-use mathlib.Core.Path.{_≡_, refl, sym, ap, _∙_}
+use mathlib.Core.Path.{_≡_, refl, sym, ap, subst, _∙_}
 use mathlib.Core.List.{List, [], _++_, append-nil}
 use native.Mathlib.Omega.{arith}
 use lib.ListN.{length, getD, drop}
@@ -10,81 +10,71 @@ use borrow.Author.Needs.{needs}
 use borrow.Author.Tests.{lt-leb}
 use Rattle.meaning.specs.declared.Answer.{Answer}
 use Rattle.meaning.specs.declared.Graph.{Graph}
+use Rattle.meaning.specs.declared.Outcome.{Outcome}
 use Rattle.meaning.specs.declared.Outcome.the-variants.{Accepted, Refused}
 use Rattle.meaning.specs.declared.Reason.the-variants.{Steps, Room}
 use Rattle.meaning.specs.declared.Refusal.{Refusal}
-use Rattle.meaning.specs.Limits.{document, kinds, queryLimit, stepLimit}
-use Rattle.meaning.specs.Graphs.{LegalGraph}
-use Rattle.meaning.specs.Queries.{XPath, LegalPath, queryNodes}
+use Rattle.meaning.specs.Limits.{document, kinds, stepLimit}
+use Rattle.meaning.specs.Queries.{XPath}
 use Rattle.meaning.specs.Translation as translation
 use Rattle.meaning.specs.Translation.{translated, stepCount}
 use Rattle.meaning.proofs.Bits.{mask-single}
 use Rattle.meaning.proofs.Counts.{translated-length}
-use Rattle.fields.specs.Read.{Read, got, refused}
-use Rattle.fields.specs.Outcomes.{outcomeOf}
-use Rattle.fields.proofs.Outcomes.{turned, held}
+use Rattle.fields.specs.Read.{got}
 use Rattle.fields.specs.Write.{byteOf, headerOf}
-use Rattle.graph.specs.declared.GraphRead.{GraphRead}
-use Rattle.graph.specs.Gra.{graphFile}
-use Rattle.graph.specs.Answers.{graphRead}
-use Rattle.graph.proofs.Held.{graph-turned, graph-held, graph-legal}
-use Rattle.query.specs.declared.QueryRead.{QueryRead}
-use Rattle.query.specs.Qry.{path, queryFile, pathBytes, queryBytes}
-use Rattle.query.specs.Answers.{queryRead}
+use Rattle.query.specs.Qry.{queryFile, pathBytes, queryBytes}
 use Rattle.query.proofs.File.{query-read}
 use Rattle.rel.specs.Rel.{stepsBytes, programBytes}
 use Rattle.writing.specs.Lent.{Leaves, accepted, turnedAway, over, lent}
 use Rattle.writing.specs.Put.{Put}
 use Rattle.writing.proofs.Puts.{over-nothing, over-more, put-then, put-length}
 use Rattle.writing.proofs.Stored.{stored-none, stored-there}
+use Rattle.files.specs.Files.{mapped, queryUnder, Opens, OfQuery}
+use Rattle.files.proofs.Handed.{under-out}
 use Rattle.steps.specs.declared.Place.{Place}
 use Rattle.translator.specs.Translate.{programOf, translatedQuery, translatedUnder, translation}
 use Rattle.translator.specs.Count.{stepsIn, Counted}
-use Rattle.descent.specs.Dues.{start, Due, Done}
+use Rattle.descent.specs.Dues.{path, start, Due, Done}
 use Rattle.translator.specs.Ready.{Accepts, Ready}
 use Rattle.translator.proofs.Counting.{path-steps}
 use Rattle.translator.proofs.Checked.{file-length, translated-stored}
 
-module _ (gra qry out : List ℕ) {x : GraphRead} (p : x ≡ graphRead (graphFile gra 0)) where
-  pub graph-away : {r : Refusal} {a : Answer} → x .outcome ≡ Refused r → a ≡ turnedAway r → Leaves (translation gra qry out) a out
+module _ (gra qry : List ℕ) {o : Outcome} {g : Graph} {nodes : ℕ} (p : Opens (queryUnder gra qry) o (OfQuery g nodes)) where
+  pub query-away : (out : List ℕ) {r : Refusal} {a : Answer} → o ≡ Refused r → a ≡ turnedAway r → Leaves (translation gra qry out) a out
   unfolding translation lent
-  graph-away h e = rw (e, graph-turned gra p h)
+  query-away out h e = rw (p .turned h, e)
 
-  pub graph-under : {a : Answer} {new : List ℕ} → x .outcome ≡ Accepted → Leaves (translatedUnder (x .graph) qry out) a new → Leaves (translation gra qry out) a new
-  unfolding translation translatedUnder lent
-  graph-under h e = rw (graph-held gra p h .1) e
+  module _ (h : o ≡ Accepted) where
+    read-under : (x : XPath × ℕ) × (n : ℕ) × (queryUnder gra qry ≡ got (g, x) n) × (queryFile (g .k) qry 0 ≡ got x n)
+    read-under =
+        let (x, n, e, w) = p .held h in
+        let (m, graph, file) = under-out gra (λ g. queryFile (g .k) qry 0) e in
+        (x .1, n, e ∙ ap (λ g. got (g, x .1) n) (w .graph), subst (λ g. queryFile (g .k) qry 0 ≡ got (x .1) n) (w .graph) file)
 
-query-out : (e : Read (XPath × ℕ)) → queryRead e .outcome ≡ outcomeOf e
-query-out (got p at) = refl
-query-out (refused r) = refl
+    pub query-accepted : ((i : ℕ) → Fits w8 (getD qry i 0)) → Accepts g qry
+    query-accepted bytes =
+        let (_, _, _, w) = p .held h in
+        let (x, n, _, e) = read-under in
+        let (legal, _, same) = query-read (g .k) (λ i. bytes i .fits) e in
+        record { graph = w .legal; query = x .0; legal = legal; file = same; left = x .1; end = n; reads = e }
 
-module _ (g : Graph) (qry : List ℕ) {x : QueryRead} (p : x ≡ queryRead (queryFile (g .k) qry 0)) where
-  came-out : outcomeOf (queryFile (g .k) qry 0) ≡ x .outcome
-  came-out = sym (ap (λ y. y .outcome) p ∙ query-out (queryFile (g .k) qry 0))
-
-  pub query-away : (out : List ℕ) {r : Refusal} {a : Answer} → x .outcome ≡ Refused r → a ≡ turnedAway r → Leaves (translatedUnder g qry out) a out
-  unfolding translatedUnder translatedQuery lent
-  query-away out h e = rw (e, turned (queryFile (g .k) qry 0) (came-out ∙ h))
-
-  pub query-accepted : LegalGraph g → x .outcome ≡ Accepted → Accepts g qry
-  query-accepted legal h =
-      let (n, e) = held (XPath.self, 0) (queryFile (g .k) qry 0) (came-out ∙ h) in
-      record { graph = legal; query = _; left = _; end = n; reads = e }
+    pub query-on : (out : List ℕ) {a : Answer} {new : List ℕ} → Leaves (translatedUnder g qry out) a new → Leaves (translation gra qry out) a new
+    unfolding translation translatedUnder translatedQuery
+    query-on out l = let (x, n, under, file) = read-under in rw under (rw file at l)
 
 -- An accepted query.
-module _ {g : Graph} {s : List ℕ} (A : Accepts g s) (bytes : (i : ℕ) → Fits w8 (getD s i 0)) where
-  legal-query : LegalPath (g .k) (A .query) × (queryNodes (A .query) + A .left ≡ queryLimit) × (s ≡ queryBytes (A .query))
-  legal-query = query-read (g .k) (λ i. bytes i .fits) (A .reads)
+module _ {g : Graph} {s : List ℕ} (A : Accepts g s) where
+  behind-header : drop 5 s ≡ pathBytes (A .query) ++ []
+  unfolding queryBytes
+  behind-header = ap (drop 5) (A .file) ∙ sym (append-nil (pathBytes (A .query)))
 
   count-is : stepsIn 0 (drop 5 s) ≡ stepCount (A .query)
-  unfolding queryBytes stepCount stepsIn
-  count-is =
-      let p = A .query in
-      ap (λ l. stepsIn 0 (drop 5 l)) (legal-query .2) ∙ ap (stepsIn 0) (sym (append-nil (pathBytes p))) ∙ path-steps p [] ∙ omega arith
+  unfolding stepCount stepsIn
+  count-is = ap (stepsIn 0) behind-header ∙ path-steps (A .query) [] ∙ omega arith
 
   module _ {n : ℕ} (c : Counted s n) {out : List ℕ} {a : Answer} where
     pub too-many : stepLimit < n → a ≡ turnedAway (record { reason = Steps }) → Leaves (translatedUnder g s out) a out
-    unfolding translatedUnder translatedQuery programOf lent
+    unfolding translatedUnder translatedQuery programOf mapped lent
     too-many l e = rw (e, A .reads, lt-leb (stepCount (A .query)) stepLimit (omega (arith, c .most, count-is)))
 
     pub no-room : n ≤ stepLimit → length out < 6 + 3 * n → a ≡ turnedAway (record { reason = Room }) → Leaves (translatedUnder g s out) a out
@@ -96,28 +86,25 @@ module _ {g : Graph} {s : List ℕ} (A : Accepts g s) (bytes : (i : ℕ) → Fit
   pub ready : {n k m : ℕ} → k ≡ n → Counted s n → n ≤ stepLimit → 6 + 3 * n ≤ m → Ready g s k m
   ready e c l f = rw e (record { accepted = A; count = c .all l ∙ count-is; few = l; fits = f; short = c .short l })
 
-module _ {g : Graph} {s old x y : List ℕ} {n i j : ℕ} (R : Ready g s n (length old)) (bytes : (i : ℕ) → Fits w8 (getD s i 0))
-    (p : Put 0 (headerOf 0x52 0x45 0x4C) old x i) (q : Put i (byteOf n) x y j) where
-  headed : Put 0 (headerOf 0x52 0x45 0x4C ++ byteOf n) old y j
+module _ {g : Graph} {s old x y : List ℕ} {n i j : ℕ} (R : Ready g s n (length old))
+    (p : Put 0 (headerOf 0x52 0x45 0x4C 1) old x i) (q : Put i (byteOf n) x y j) where
+  headed : Put 0 (headerOf 0x52 0x45 0x4C 1 ++ byteOf n) old y j
   headed = put-then (omega arith) p q
 
   as-long : length y ≡ length old
   as-long = put-length (omega (arith, R .fits)) headed
 
   pub start-due : {m : ℕ} → m ≡ length y → Due g s m start
-  unfolding stepCount queryBytes
+  unfolding stepCount
   start-due l =
       let A = R .accepted in
-      let (legal, _, same) = legal-query A bytes in
       record {
         graph = A .graph;
         short = omega (arith, R .short, R .few);
         kinds = omega arith;
-        sort = path;
-        tree = A .query;
-        legal = legal;
+        part = path (A .query) (A .legal);
         rest = [];
-        stands = ap (drop 5) same ∙ sym (append-nil (pathBytes (A .query)));
+        stands = behind-header A;
         enough = record { few = omega (arith, R .count, R .few); fits = omega (arith, R .count, R .fits, as-long) };
       }
 
@@ -130,8 +117,8 @@ module _ {g : Graph} {s old x y : List ℕ} {n i j : ℕ} (R : Ready g s n (leng
         let H = D .done (start-due refl) .writes .writes y [] (record { header = omega (arith, R .fits, as-long); there = sym (over-nothing 6 y); count = refl }) in
         let steps : new ≡ over 6 (stepsBytes os) y = H .there ∙ ap (λ C. over 6 (stepsBytes (translation.path g C (R .accepted .query) [])) y) (sym (mask-single kinds document (omega arith))) in
         let count : n ≡ length os = R .count ∙ sym (translated-length g (R .accepted .query)) in
-        steps ∙ ap (λ l. over 6 (stepsBytes os) l) (headed .there) ∙ over-more 0 (headerOf 0x52 0x45 0x4C ++ byteOf n) (stepsBytes os) old (omega arith)
-        ∙ ap (λ k. over 0 ((headerOf 0x52 0x45 0x4C ++ byteOf k) ++ stepsBytes os) old) count
+        steps ∙ ap (λ l. over 6 (stepsBytes os) l) (headed .there) ∙ over-more 0 (headerOf 0x52 0x45 0x4C 1 ++ byteOf n) (stepsBytes os) old (omega arith)
+        ∙ ap (λ k. over 0 ((headerOf 0x52 0x45 0x4C 1 ++ byteOf k) ++ stepsBytes os) old) count
 
     pub written-all : {a : Answer} → a ≡ accepted (6 + 3 * n) → Leaves (translatedUnder g s old) a new
     written-all e =
@@ -140,4 +127,4 @@ module _ {g : Graph} {s old x y : List ℕ} {n i j : ℕ} (R : Ready g s n (leng
         translated-stored g s old (R .accepted .reads) (omega (arith, R .count, R .few))
         ∙ stored-there (programBytes (translated g p)) old (omega (arith, long, R .fits)) ∙ rw (e, long, file-there)
 
-pub ruleset answers = (graph-away, graph-under, graph-legal, query-away, query-accepted, too-many, no-room, ready, start-due, written-all, needs)
+pub ruleset answers = (query-away, query-accepted, query-on, too-many, no-room, ready, start-due, written-all, needs)

@@ -13,15 +13,12 @@ use Rattle.meaning.specs.Operations.{LegalProgram}
 use Rattle.meaning.specs.Translation.{translated, stepCount}
 use Rattle.meaning.proofs.Counts.{translated-length, translated-legal}
 use Rattle.fields.specs.Read.{got}
-use Rattle.fields.specs.Write.{Bytes}
-use Rattle.graph.specs.Gra.{graphFile}
-use Rattle.graph.proofs.File.{graph-read}
 use Rattle.query.specs.Qry.{queryFile}
-use Rattle.query.proofs.File.{query-read}
 use Rattle.rel.specs.Rel.{programFile, programBytes}
 use Rattle.rel.proofs.File.{program-written}
 use Rattle.rel.proofs.Encoded.{program-length}
 use Rattle.writing.specs.Lent.{stored, lent}
+use Rattle.files.specs.Files.{mapped}
 use Rattle.translator.specs.Translate.{programOf, translatedQuery, translatedUnder}
 
 pub file-length : (g : Graph) (p : XPath) → length (programBytes (translated g p)) ≡ 6 + 3 * stepCount p
@@ -37,14 +34,8 @@ translated-checked g p graph query few =
     let legal = translated-legal stepLimit g graph p query few in
     record { legal = legal; reads-back = program-written legal; long = file-length g p }
 
--- the same of any two files that were accepted
-pub translation-checked : (gra qry : List ℕ) {g : Graph} {p : XPath} {left m n : ℕ} → Bytes gra → Bytes qry → graphFile gra 0 ≡ got g m → queryFile (g .k) qry 0 ≡ got (p, left) n
-    → stepCount p ≤ stepLimit → Checked g p
-translation-checked gra qry {g} {p} {m = m} gra-bytes qry-bytes read-graph read-query few =
-    translated-checked g p (graph-read gra gra-bytes g m read-graph .0) (query-read (g .k) qry-bytes read-query .0) few
-
 -- the buffer as it is left: with the file in it, where there is room
 pub translated-stored : (g : Graph) (qry out : List ℕ) {p : XPath} {left n : ℕ} → queryFile (g .k) qry 0 ≡ got (p, left) n → stepCount p ≤ stepLimit
     → translatedUnder g qry out ≡ stored (programBytes (translated g p)) out
-unfolding translatedUnder translatedQuery programOf lent
+unfolding translatedUnder translatedQuery programOf mapped lent
 translated-stored g qry out {p} e few = rw (e, le-leb (stepCount p) stepLimit few)

@@ -1,57 +1,15 @@
 -- Counting the steps over the bytes of a query: one law for each turn and return, and what is counted.
 use Prim.Native.Nat.{ℕ, zero, suc, _+_, _*_, _<_, _≤_}
 use mathlib.Core.Path.{_≡_, refl, sym, ap, _∙_}
-use mathlib.Core.Bool.{Bool, true, false}
 use mathlib.Core.List.{List, [], _∷_, _++_, append-assoc}
 use native.Mathlib.Omega.{arith}
-use lib.Dec.{eqb}
 use lib.ListN.{length, getD, drop, drop-of-length-le}
 use lib.Seq.{drop-nil, drop-cons, drop-drop}
-use mir.Syntax.{w64}
-use mir.Val.{Fits}
 use borrow.Author.Needs.{needs}
-use borrow.Author.Tests.{ne-eqb}
 use Rattle.meaning.specs.Limits.{stepLimit}
 use Rattle.meaning.specs.Queries.{XPath, Qualifier, self, child, anyChild, slash, slashes, union, filter, reached, textIs, isNot, both, either, pathCount, qualifierCount}
-use Rattle.fields.specs.Read.{pick}
 use Rattle.query.specs.Qry.{pathBytes, qualifierBytes}
 use Rattle.translator.specs.Count.{fieldsOf, ownSteps, stepsIn, Counted}
-
--- A code's fields and steps.
-module _ (c : ℕ) where
-  pub fields-type : c ≡ 0x02 → 1 ≡ fieldsOf c
-  fields-type e = rw e
-
-  pub fields-text : c ≡ 0x12 → 2 ≡ fieldsOf c
-  fields-text e = rw e
-
-  pub fields-none : (c ≡ 0x02 → ⊥) → (c ≡ 0x12 → ⊥) → 0 ≡ fieldsOf c
-  fields-none n o = simp (ne-eqb c _ n, ne-eqb c _ o)
-
-  pub own-slashes : c ≡ 0x05 → 6 ≡ ownSteps c
-  own-slashes e = rw e
-
-  pub own-not : c ≡ 0x13 → 2 ≡ ownSteps c
-  own-not e = rw e
-
-  pub own-one : (c ≡ 0x05 → ⊥) → (c ≡ 0x13 → ⊥) → 1 ≡ ownSteps c
-  own-one n o = simp (ne-eqb c _ n, ne-eqb c _ o)
-
-  fields-few : fieldsOf c ≤ 2
-  fields-few = go (eqb c 0x02) (eqb c 0x12)
-    where
-      go : (a b : Bool) → pick a 1 (pick b 2 0) ≤ 2
-      go true b = omega arith
-      go false true = omega arith
-      go false false = omega arith
-
-  own-few : (1 ≤ ownSteps c) × (ownSteps c ≤ 6)
-  own-few = go (eqb c 0x05) (eqb c 0x13)
-    where
-      go : (a b : Bool) → (1 ≤ pick a 6 (pick b 2 1)) × (pick a 6 (pick b 2 1) ≤ 6)
-      go true b = omega arith
-      go false true = omega arith
-      go false false = omega arith
 
 skipped : (n : ℕ) (s : List ℕ) → stepsIn n s ≡ stepsIn 0 (drop n s)
 unfolding stepsIn
@@ -78,42 +36,17 @@ module _ {s : List ℕ} {at steps : ℕ} (u : Upto s at steps) where
       let e : stepsIn 0 (drop at s) ≡ 0 = ap (stepsIn 0) (drop-of-length-le s l) in
       record { most = omega (arith, u .sum); all = λ m. omega (arith, u .sum); short = λ m. omega (arith, u .near) }
 
-  module _ {f : ℕ} (e : f ≡ fieldsOf (getD s at 0)) where
-    pub at-fits : steps ≤ stepLimit → Fits w64 (at + (1 + f))
-    at-fits l = record { fits = omega (arith, u .near, fields-few (getD s at 0)) }
+  pub upto-more : {f w : ℕ} → at < length s → steps ≤ stepLimit → f ≡ fieldsOf (getD s at 0) → f ≤ 2 → w ≡ ownSteps (getD s at 0) → 1 ≤ w → w ≤ 6 → Upto s (at + (1 + f)) (steps + w)
+  unfolding stepsIn
+  upto-more {f} i l e f2 o w1 w6 =
+      let c = getD s at 0 in
+      let here : stepsIn 0 (drop at s) ≡ ownSteps c + stepsIn (fieldsOf c) (drop (suc at) s) = ap (stepsIn 0) (drop-cons s at 0 i) in
+      let next : suc at + fieldsOf c ≡ at + (1 + f) = omega arith in
+      let there : stepsIn (fieldsOf c) (drop (suc at) s) ≡ stepsIn 0 (drop (at + (1 + f)) s) =
+      skipped (fieldsOf c) (drop (suc at) s) ∙ ap (stepsIn 0) (drop-drop (fieldsOf c) (suc at) s ∙ ap (λ n. drop n s) next) in
+      record { sum = omega (arith, u .sum); near = omega (arith, u .near); few = omega arith }
 
-    pub upto-more : {w : ℕ} → at < length s → steps ≤ stepLimit → w ≡ ownSteps (getD s at 0) → Upto s (at + (1 + f)) (steps + w)
-    unfolding stepsIn
-    upto-more {w} i l o =
-        let c = getD s at 0 in
-        let here : stepsIn 0 (drop at s) ≡ ownSteps c + stepsIn (fieldsOf c) (drop (suc at) s) = ap (stepsIn 0) (drop-cons s at 0 i) in
-        let next : suc at + fieldsOf c ≡ at + (1 + f) = omega arith in
-        let there : stepsIn (fieldsOf c) (drop (suc at) s) ≡ stepsIn 0 (drop (at + (1 + f)) s) =
-        skipped (fieldsOf c) (drop (suc at) s) ∙ ap (stepsIn 0) (drop-drop (fieldsOf c) (suc at) s ∙ ap (λ n. drop n s) next) in
-        record { sum = omega (arith, u .sum); near = omega (arith, u .near, fields-few c, own-few c); few = omega (arith, own-few c) }
-
-  pub steps-fit : {w : ℕ} → w ≡ ownSteps (getD s at 0) → Fits w64 (steps + w)
-  steps-fit o = record { fits = omega (arith, u .few, own-few (getD s at 0)) }
-
-pub fields-fit : {f : ℕ} (c : ℕ) → f ≡ fieldsOf c → Fits w64 (1 + f)
-fields-fit c e = record { fits = omega (arith, fields-few c) }
-
-pub ruleset counts = (
-  fields-type,
-  fields-text,
-  fields-none,
-  own-slashes,
-  own-not,
-  own-one,
-  upto-none,
-  upto-many,
-  upto-all,
-  at-fits,
-  upto-more,
-  steps-fit,
-  fields-fit,
-  needs,
-)
+pub ruleset counts = (upto-none, upto-many, upto-all, upto-more, needs)
 
 -- The bytes of a path or a qualifier hold its steps.
 two-parts : (m n : ℕ) (a b s : List ℕ) → stepsIn 0 (a ++ (b ++ s)) ≡ m + stepsIn 0 (b ++ s) → stepsIn 0 (b ++ s) ≡ n + stepsIn 0 s → stepsIn 0 ((a ++ b) ++ s) ≡ m + n + stepsIn 0 s

@@ -6,15 +6,17 @@ use lib.ListN.{length}
 use Rattle.meaning.specs.declared.Graph.{Graph}
 use Rattle.meaning.specs.Limits.{stepLimit}
 use Rattle.meaning.specs.Graphs.{LegalGraph}
-use Rattle.meaning.specs.Queries.{XPath}
+use Rattle.meaning.specs.Queries.{XPath, LegalPath}
 use Rattle.meaning.specs.Translation.{stepCount}
 use Rattle.fields.specs.Read.{got}
-use Rattle.query.specs.Qry.{queryFile}
+use Rattle.query.specs.Qry.{queryFile, queryBytes}
 
--- it was accepted under a graph
+-- it was accepted under a graph: it is legal, and the bytes are its file
 pub record Accepts (g : Graph) (s : List ℕ) : Type 0 where
   pub graph : LegalGraph g
   pub query : XPath
+  pub legal : LegalPath (g .k) query
+  pub file : s ≡ queryBytes query
   pub left : ℕ
   pub end : ℕ
   pub reads : queryFile (g .k) s 0 ≡ got (query, left) end

@@ -9,10 +9,10 @@ use Rattle.meaning.specs.Limits.{stepLimit}
 use Rattle.meaning.specs.Queries.{XPath}
 use Rattle.meaning.specs.Translation.{translated, stepCount}
 use Rattle.fields.specs.Read.{Read, got, refused, bind, pick}
-use Rattle.graph.specs.Gra.{graphFile}
 use Rattle.query.specs.Qry.{queryFile}
 use Rattle.rel.specs.Rel.{programBytes}
 use Rattle.writing.specs.Lent.{Lent, lent}
+use Rattle.files.specs.Files.{mapped, queryUnder}
 
 -- a query's program, where it has at most 24 steps
 unfoldable pub programOf : Graph → XPath → ℕ → Read (List Operation)
@@ -23,7 +23,7 @@ unfoldable pub translatedQuery : Graph → List ℕ → Read (List Operation)
 translatedQuery g qry = bind (queryFile (g .k) qry 0) λ p at. programOf g (p .0) at
 
 unfoldable pub translatedUnder : Graph → List ℕ → List ℕ → Lent
-translatedUnder g qry out = lent (bind (translatedQuery g qry) λ os at. got (programBytes os) at) out
+translatedUnder g qry out = lent (mapped programBytes (translatedQuery g qry)) out
 
 unfoldable pub translation : List ℕ → List ℕ → List ℕ → Lent
-translation gra qry out = lent (bind (graphFile gra 0) λ g _. bind (translatedQuery g qry) λ os at. got (programBytes os) at) out
+translation gra qry out = lent (bind (queryUnder gra qry) λ x at. mapped programBytes (programOf (x .0) (x .1 .0) at)) out

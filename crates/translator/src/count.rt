@@ -1,11 +1,12 @@
 // How many steps a query takes, before any is written.
 ghost use mathlib.Core.Path.{_≡_};
+ghost use Prim.Native.Nat.{_≤_};
 ghost use Rattle.translator.specs.Count.{fieldsOf, ownSteps, Counted};
 use crate::LIMIT;
 
 // The bytes that a node has behind its code.
 fn fields(code: u8) -> usize
-    ensures { λ r. ⌜ r ≡ fieldsOf code ⌝ }
+    ensures { λ r. ⌜ (r ≡ fieldsOf code) × (r ≤ 2) ⌝ }
 {
     match code {
         0x02 => 1,
@@ -16,7 +17,7 @@ fn fields(code: u8) -> usize
 
 // The steps of a node besides those of its parts: five more for //, one more for not.
 fn own_steps(code: u8) -> usize
-    ensures { λ r. ⌜ r ≡ ownSteps code ⌝ }
+    ensures { λ r. ⌜ (r ≡ ownSteps code) × (1 ≤ r) × (r ≤ 6) ⌝ }
 {
     match code {
         0x05 => 6,

@@ -21,6 +21,10 @@ mixed-spec =
     μ-loop
     (λ c κs. search algebra)
     (λ c. search algebra)
+    (λ c. search algebra)
+    (λ c. search algebra)
+    (λ c. search algebra)
+    (λ c. search algebra)
     (λ c κs. search algebra)
     (λ c. search algebra)
     (λ c. search algebra)

@@ -7,7 +7,6 @@ pub step-spec : {M : Type 1} → statement M
 step-spec =
     tie.close
     (tie.spec
-    (λ c κs. search step-laws) (λ c. search step-laws) (λ c. search step-laws) (λ c κs. search step-laws) (λ c. search step-laws)
-    (λ c κs. search step-laws) (λ c κs. search step-laws) (λ c. search step-laws) (λ c. search step-laws) (λ c κs. search step-laws)
-    (λ c. search step-laws) (λ c κs. search step-laws) (λ c. search step-laws) (λ c. search step-laws) (λ c κs. search step-laws) (λ c. search step-laws)
-    (λ c κs. search step-laws) (λ c. search step-laws))
+    (λ c κs. search step-laws) (λ c. search step-laws) (λ c. search step-laws) (λ c. search step-laws) (λ c κs. search step-laws)
+    (λ c κs. search step-laws) (λ c. search step-laws) (λ c. search step-laws) (λ c. search step-laws) (λ c κs. search step-laws) (λ c. search step-laws)
+    (λ c. search step-laws) (λ c. search step-laws) (λ c κs. search step-laws) (λ c. search step-laws))

@@ -8,8 +8,8 @@ use Rattle.rows.proofs.gather.Tie as tie
 
 returns : tie.Need-returns
 returns c =
-    gathered-word 16 _ _ _ _ 1 (omega arith) refl
-    (gathered-word 16 _ _ _ _ 0 (omega arith) (omega arith) (gathered-nothing 16 _ _ _ _ (record { bits = λ w. refl })) (c .before .gather-word .ensures))
+    gathered-word _ _ _ _ _ 1 (omega arith) refl
+    (gathered-word _ _ _ _ _ 0 (omega arith) (omega arith) (gathered-nothing _ _ _ _ _ (record { bits = λ w. refl })) (c .before .gather-word .ensures))
     (c .gather-word2 .ensures)
 
 pub gather-spec : {M : Type 1} → statement M

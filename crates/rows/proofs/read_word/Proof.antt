@@ -20,7 +20,7 @@ unfolding mask
 loop-holds c = search needs
 
 loop-again : tie.Need-loop-again Inv-loop μ-loop
-loop-again c = let l = c .before .before in (search needs, word-more 8 _ _ (l .before .loop .inv .1) (l .loop-test .taken) (c .wide .ensures .0) (c .wide .ensures .1))
+loop-again c = let l = c .before .before in (search needs, word-more 8 _ _ (l .before .loop .inv .1) (l .loop-test .taken) (c .u8-to-u64 .ensures .0) (c .u8-to-u64 .ensures .1))
 
 pub read-word-spec : {M : Type 1} → statement M
 read-word-spec =

@@ -4,12 +4,4 @@ use Rattle.steps.proofs.below.Statement.{statement}
 use Rattle.steps.proofs.below.Tie as tie
 
 pub below-spec : {M : Type 1} → statement M
-below-spec =
-    tie.close
-    (tie.spec
-    (λ c κs. search writers)
-    (λ c κs. search writers)
-    (λ c κs. search writers)
-    (λ c κs. search writers)
-    (λ c. search writers)
-    (λ c. search writers))
+below-spec = tie.close (tie.spec (λ c κs. search writers) (λ c κs. search writers) (λ c κs. search writers) (λ c. search writers) (λ c. search writers))

@@ -4,10 +4,4 @@ use Rattle.steps.proofs.closed.Statement.{statement}
 use Rattle.steps.proofs.closed.Tie as tie
 
 pub closed-spec : {M : Type 1} → statement M
-closed-spec =
-    tie.close
-    (tie.spec
-    (λ c κs. search writers)
-    (λ c κs. search writers)
-    (λ c. search writers)
-    (λ c. search writers))
+closed-spec = tie.close (tie.spec (λ c κs. search writers) (λ c κs. search writers) (λ c. search writers) (λ c. search writers))

@@ -4,12 +4,4 @@ use Rattle.steps.proofs.combine.Statement.{statement}
 use Rattle.steps.proofs.combine.Tie as tie
 
 pub combine-spec : {M : Type 1} → statement M
-combine-spec =
-    tie.close
-    (tie.spec
-    (λ c κs. search writers)
-    (λ c κs. search writers)
-    (λ c κs. search writers)
-    (λ c κs. search writers)
-    (λ c. search writers)
-    (λ c. search writers))
+combine-spec = tie.close (tie.spec (λ c κs. search writers) (λ c κs. search writers) (λ c κs. search writers) (λ c κs. search writers) (λ c. search writers) (λ c. search writers))

@@ -4,10 +4,4 @@ use Rattle.steps.proofs.table.Statement.{statement}
 use Rattle.steps.proofs.table.Tie as tie
 
 pub table-spec : {M : Type 1} → statement M
-table-spec =
-    tie.close
-    (tie.spec
-    (λ c κs. search writers)
-    (λ c κs. search writers)
-    (λ c. search writers)
-    (λ c. search writers))
+table-spec = tie.close (tie.spec (λ c κs. search writers) (λ c κs. search writers) (λ c. search writers) (λ c. search writers))

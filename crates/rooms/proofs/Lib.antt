@@ -1,0 +1,10 @@
+pub mod Changes
+pub mod Rooms
+pub mod Turns
+pub mod Elements
+pub mod Sweeps
+pub mod Closings
+pub mod Steps
+pub mod Layouts
+pub mod Performing
+pub mod Outcomes

@@ -1,0 +1,158 @@
+// Rooms: the steps of a program, each made in its room of a lent work area, and the nodes that the last one selects.
+ghost use mathlib.Core.Path.{_≡_};
+ghost use Prim.Native.Nat.{_*_, _≤_, _<_};
+ghost use lib.ListN.{length};
+ghost use Rattle.meaning.specs.declared.Reason.the-variants.{Room};
+ghost use Rattle.meaning.specs.Limits.{roomBytes};
+ghost use Rattle.meaning.specs.Operations.{rows};
+ghost use Rattle.meaning.specs.Records.{operationsIn};
+ghost use Rattle.writing.specs.Lent.{turnedAway};
+ghost use Rattle.rooms.specs.Layout.{workByte, overwritten};
+ghost use Rattle.rooms.specs.Rooms.{RowWidth, Made};
+ghost use Rattle.rooms.specs.Ready.{shown, Ready};
+ghost use Rattle.rooms.specs.Steps.{roomsIn, Makeable};
+ghost use Rattle.rooms.specs.Run.{performed, Gives};
+
+mod room;
+mod row;
+
+use crate::room::Test;
+use meaning::Answer;
+use meaning::Operation;
+use meaning::Program;
+use meaning::Reason;
+use meaning::Refusal;
+use meaning::SMALL;
+use rows::Mix;
+
+// The place of a step's room.
+fn room_at(step: usize, width: usize) -> usize
+    requires { ⌜ RowWidth width × (step < 256) ⌝ }
+    ensures { λ r. ⌜ r ≡ roomBytes width * step ⌝ }
+{
+    width * width * 8 * step
+}
+
+// The place of an operand's room.
+fn place(step: u8, width: usize) -> usize
+    requires { ⌜ RowWidth width ⌝ }
+    ensures { λ r. ⌜ r ≡ roomBytes width * step ⌝ }
+{
+    room_at(step as usize, width)
+}
+
+// Makes step s in its room, from the rooms of its operands.
+fn make(work: &mut [u8], kept: &[u32], count: usize, s: usize, operation: Operation, width: usize)
+    requires { ⌜ Makeable width (now kept) count (now work) s operation ⌝ }
+    ensures { λ r. ⌜ Made width (now (work .entry)) (now (work .exit)) (roomBytes width * s) (rows (shown (now (kept .entry)) count) (roomsIn width (now (work .entry)) s) operation) ⌝ }
+{
+    let base = room_at(s, width);
+    let size = count + 1;
+    match operation {
+        Operation::Table(mask) => room::table(work, base, kept, count, mask, width),
+        Operation::Itself => room::diagonal(work, base, kept, count, Test::Always, width),
+        Operation::Text(number) => room::diagonal(
+            work,
+            base,
+            kept,
+            count,
+            Test::Text(number),
+            width,
+        ),
+        Operation::Join(a, b) => room::join(
+            work,
+            base,
+            place(a, width),
+            place(b, width),
+            size,
+            width,
+        ),
+        Operation::Union(a, b) => room::mix(
+            work,
+            base,
+            place(a, width),
+            place(b, width),
+            size,
+            Mix::Either,
+            width,
+        ),
+        Operation::Closure(a) => room::closure(work, base, place(a, width), size, width),
+        Operation::Has(a) => room::diagonal(
+            work,
+            base,
+            kept,
+            count,
+            Test::Related(place(a, width)),
+            width,
+        ),
+        Operation::Diff(a, b) => room::mix(
+            work,
+            base,
+            place(a, width),
+            place(b, width),
+            size,
+            Mix::First,
+            width,
+        ),
+        Operation::Both(a, b) => room::mix(
+            work,
+            base,
+            place(a, width),
+            place(b, width),
+            size,
+            Mix::Both,
+            width,
+        ),
+    }
+}
+
+// Makes the steps in turn.
+fn perform(work: &mut [u8], kept: &[u32], count: usize, program: Program, width: usize)
+    requires { ⌜ RowWidth width × Ready (now kept) count program × (roomBytes width * program .count ≤ length (now work)) ⌝ }
+    ensures { λ r. ⌜ now (work .exit) ≡ overwritten (workByte width (shown (now (kept .entry)) count) (operationsIn program)) (roomBytes width * program .count) (now (work .entry)) ⌝ }
+{
+    let steps = program.count;
+    let mut s: usize = 0;
+    while s < steps {
+        let step = program.steps[s];
+        let operation = step.operation;
+        make(work, kept, count, s, operation, width);
+        s += 1;
+    }
+}
+
+// A lent buffer is too short.
+fn short() -> Answer
+    ensures { λ r. ⌜ r ≡ turnedAway (record { reason = Room }) ⌝ }
+{
+    let refusal = Refusal {
+        reason: Reason::Room,
+    };
+    writing::turned_away(refusal)
+}
+
+// Runs a program over the first count elements that are kept. Where a buffer is too short, nothing is written to either.
+pub fn run_over(
+    kept: &[u32],
+    count: usize,
+    program: Program,
+    out: &mut [u8],
+    work: &mut [u8],
+) -> Answer
+    requires { ⌜ Ready (now kept) count program ⌝ }
+    ensures { λ r. ⌜ Gives (performed (shown (now (kept .entry)) count) (operationsIn program) (now (out .entry)) (now (work .entry))) r (now (out .exit)) (now (work .exit)) ⌝ }
+{
+    let width = SMALL.row;
+    let size = count + 1;
+    let steps = program.count;
+    if out.len() < size {
+        return short();
+    }
+    if work.len() < room_at(steps, width) {
+        return short();
+    }
+    perform(work, kept, count, program, width);
+    let selected = row::read(work, room_at(steps - 1, width), 0, width);
+    rows::list(selected, size, out);
+    writing::accepted(rows::count(selected))
+}
