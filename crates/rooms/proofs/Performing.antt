@@ -2,14 +2,14 @@
 use Prim.Native.Nat.{ℕ, _+_, _*_, _/_, _%_, _≤_, _<_}
 use mathlib.Core.Path.{_≡_, refl, sym, ap, ap₂, _∙_, fun-ext}
 use mathlib.Core.Bool.{true}
-use mathlib.Core.List.{List, [], _∷_, _++_}
+use mathlib.Core.List.{List, [], _∷_, _++_, map}
 use native.Mathlib.Nat.{zero-add, div-lt-iff-lt-mul, mul-pos}
 use native.Mathlib.Numerals.{add-one}
 use native.Mathlib.Omega.{arith}
 use borrow.Author.Needs.{needs}
 use mir.Syntax.{w8}
 use mir.Val.{Fits}
-use lib.ListN.{length, getD, take}
+use lib.ListN.{length, getD, take, length-map}
 use lib.Seq.{take-suc, take-all, ext-getD}
 use Rattle.meaning.specs.declared.Operation.{Operation}
 use Rattle.meaning.specs.declared.Operation.the-variants.{Itself}
@@ -25,7 +25,6 @@ use Rattle.meaning.proofs.Lists.{table-more, table-cong}
 use Rattle.meaning.proofs.Records.{operation-at}
 use Rattle.meaning.proofs.Results.{results-append}
 use Rattle.meaning.proofs.Runs.{run-nodes}
-use Rattle.fields.proofs.Nodes.{array-full}
 use Rattle.rows.specs.Rows.{rowsAt, Kept}
 use Rattle.rows.proofs.Bytes.{kept-all, kept-wider, kept-inside}
 use Rattle.rows.proofs.Cases.{by-order}
@@ -38,6 +37,10 @@ use Rattle.rooms.proofs.Elements.{size-is, there-node}
 use Rattle.rooms.proofs.Layouts.{byte-is, overwritten-front, overwritten-past, overwritten-length}
 use Rattle.rooms.proofs.Rooms.{room-kept}
 use Rattle.rooms.proofs.Steps.{room-of}
+
+-- an array is as long as what its elements are made of
+pub array-full : {A B : Type 0} (l : List A) (f : A → B) {n : ℕ} → length (map f l) ≡ n → length l ≡ n
+array-full l f h = sym (length-map l f) ∙ h
 
 -- one operation more: its rows come last
 run-more : (d : View) (os : List Operation) (o : Operation) → run d (os ++ (o ∷ [])) ≡ run d os ++ (rows d (run d os) o ∷ [])

@@ -1,12 +1,4 @@
-pub mod Rooms
-pub mod Turns
-pub mod Elements
-pub mod Sweeps
-pub mod Closings
-pub mod Layouts
-pub mod Steps
-pub mod Performing
-pub mod Outcomes
+-- The laws of a run over files, and what is proved of it.
 pub mod Prepared
 pub mod Files
 pub mod Theorems

@@ -7,23 +7,24 @@ use lib.ListN.{length}
 use Rattle.meaning.specs.declared.Element.{Element}
 use Rattle.meaning.specs.declared.Graph.{Graph}
 use Rattle.meaning.specs.declared.Operation.{Operation}
-use Rattle.meaning.specs.Limits.{elementLimit}
+use Rattle.meaning.specs.Limits.{small, elementLimit, roomBytes}
 use Rattle.meaning.specs.Documents.{View, view}
 use Rattle.meaning.specs.Operations.{last, run, answer}
 use Rattle.meaning.specs.Relations.{at}
 use Rattle.meaning.proofs.Listed.{Lists, listed-lists}
 use Rattle.fields.specs.Read.{got}
 use Rattle.graph.specs.Gra.{graphFile}
-use Rattle.tables.specs.Edg.{tablesFile}
-use Rattle.program.specs.Rel.{programFile}
+use Rattle.edg.specs.Edg.{tablesFile}
+use Rattle.rel.specs.Rel.{programFile}
 use Rattle.writing.specs.Lent.{accepted, over}
 use Rattle.writing.proofs.Puts.{over-front, over-length}
-use Rattle.runner.specs.Layout.{roomBytes, workByte, overwritten}
-use Rattle.runner.specs.Run.{performed, runOf, Gives}
+use Rattle.rooms.specs.Layout.{workByte, overwritten}
+use Rattle.rooms.specs.Run.{performed, Gives}
+use Rattle.runner.specs.Run.{runOf}
 use Rattle.runner.specs.Promises.{Roomy, Promised, Alike}
 use Rattle.rows.proofs.Answers.{tally-most}
-use Rattle.runner.proofs.Layouts.{over-past, overwritten-past, overwritten-length, overwritten-taken, joined-is}
-use Rattle.runner.proofs.Outcomes.{leaves-all}
+use Rattle.rooms.proofs.Layouts.{over-past, overwritten-past, overwritten-length, overwritten-taken, joined-is}
+use Rattle.rooms.proofs.Outcomes.{leaves-all}
 use Rattle.runner.proofs.Files.{runs-as}
 
 module _ (d : View) (os : List Operation) where
@@ -37,7 +38,7 @@ module _ (d : View) (os : List Operation) where
 
   -- what a run leaves that has its room
   pub performed-given : {out work : List ℕ} → Roomy d os out work
-      → Gives (performed d os out work) (accepted (length (answer d os))) (over 0 (answer d os) out) (overwritten (workByte d os) (roomBytes * length os) work)
+      → Gives (performed d os out work) (accepted (length (answer d os))) (over 0 (answer d os) out) (overwritten (workByte (small .row) d os) (roomBytes (small .row) * length os) work)
   unfolding performed
   performed-given {out} {work} room = leaves-all (d .size) (answer d os) d os out work (room .for-nodes) (room .for-steps)
 
@@ -52,9 +53,9 @@ module _ (d : View) (os : List Operation) where
         lists = here;
         ascend = rw here (nodes-listed .ascends);
         nodes = rw here (nodes-listed .below);
-        rows = joined-is d os (length os) work;
+        rows = joined-is (small .row) (omega arith) d os (length os) work;
         out-stays = (over-length 0 (answer d os) out (omega arith), over-past (answer d os) out);
-        work-stays = (overwritten-length (workByte d os) (roomBytes * length os) work (room .for-steps), overwritten-past (workByte d os) (roomBytes * length os) work);
+        work-stays = (overwritten-length (workByte (small .row) d os) (roomBytes (small .row) * length os) work (room .for-steps), overwritten-past (workByte (small .row) d os) (roomBytes (small .row) * length os) work);
       }
 
   pub performed-alike : {out work out′ work′ : List ℕ} → Roomy d os out work → Roomy d os out′ work′ → Alike (length os) (performed d os out work) (performed d os out′ work′)
@@ -62,7 +63,7 @@ module _ (d : View) (os : List Operation) where
       rw (performed-given room, performed-given room′) record {
         answers = refl;
         nodes = over-front (answer d os) out ∙ sym (over-front (answer d os) out′);
-        rooms = overwritten-taken (workByte d os) (roomBytes * length os) work ∙ sym (overwritten-taken (workByte d os) (roomBytes * length os) work′);
+        rooms = overwritten-taken (workByte (small .row) d os) (roomBytes (small .row) * length os) work ∙ sym (overwritten-taken (workByte (small .row) d os) (roomBytes (small .row) * length os) work′);
       }
 
 -- The same of a run on files that are accepted.

@@ -1,6 +1,3 @@
-pub mod Layout
-pub mod Rooms
-pub mod Ready
-pub mod Steps
+-- A run over files, and what is promised of it.
 pub mod Run
 pub mod Promises

@@ -7,13 +7,14 @@ use Rattle.meaning.specs.declared.Operation.{Operation}
 use Rattle.meaning.specs.Relations.{at}
 use Rattle.meaning.specs.Documents.{View}
 use Rattle.meaning.specs.Operations.{run, answer}
-use Rattle.runner.specs.Layout.{roomBytes, joined}
-use Rattle.runner.specs.Run.{Ran}
+use Rattle.meaning.specs.Limits.{small, rowBits, roomBytes}
+use Rattle.rooms.specs.Layout.{joined}
+use Rattle.rooms.specs.Run.{Ran}
 
 -- n+1 bytes for the answer, 2,048 bytes a step of work area
 pub record Roomy (d : View) (os : List Operation) (out work : List ℕ) : Type 0 where
   pub for-nodes : d .size ≤ length out
-  pub for-steps : roomBytes * length os ≤ length work
+  pub for-steps : roomBytes (small .row) * length os ≤ length work
 
 -- the numbers written, as many as the call answers
 abbrev pub nodesIn : Ran → List ℕ
@@ -28,13 +29,13 @@ pub record Promised (d : View) (os : List Operation) (out work : List ℕ) (r : 
   pub ascend : (i j : ℕ) → i < j → j < length (nodesIn r) → getD (nodesIn r) i 0 < getD (nodesIn r) j 0
   pub nodes : (i : ℕ) → i < length (nodesIn r) → getD (nodesIn r) i 0 < d .size
   -- the work area holds exactly the rows of each step
-  pub rows : (s v w : ℕ) → s < length os → v < 128 → w < 128 → joined (r .work) s v w ≡ at (run d os) s v w
+  pub rows : (s v w : ℕ) → s < length os → v < rowBits (small .row) → w < rowBits (small .row) → joined (small .row) (r .work) s v w ≡ at (run d os) s v w
   -- bytes past the nodes, and past the steps' room, stay
   pub out-stays : (length (r .out) ≡ length out) × ((i : ℕ) → r .answer .count ≤ i → getD (r .out) i 0 ≡ getD out i 0)
-  pub work-stays : (length (r .work) ≡ length work) × ((i : ℕ) → roomBytes * length os ≤ i → getD (r .work) i 0 ≡ getD work i 0)
+  pub work-stays : (length (r .work) ≡ length work) × ((i : ℕ) → roomBytes (small .row) * length os ≤ i → getD (r .work) i 0 ≡ getD work i 0)
 
 -- two runs of so many steps have the same outcome, whatever the lent buffers held
 pub record Alike (steps : ℕ) (r q : Ran) : Type 0 where
   pub answers : r .answer ≡ q .answer
   pub nodes : nodesIn r ≡ nodesIn q
-  pub rooms : take (roomBytes * steps) (r .work) ≡ take (roomBytes * steps) (q .work)
+  pub rooms : take (roomBytes (small .row) * steps) (r .work) ≡ take (roomBytes (small .row) * steps) (q .work)

@@ -103,8 +103,7 @@ module _ (d : View) (few : d .size < 1000) (kinds : (v : ℕ) → d .kind v < 10
   lines-most (v ∷ vs) nodes = omega (arith, length-append (line d v) (lines d vs), line-most v (nodes 0 (omega arith)), lines-most vs (λ i l. nodes (suc i) (omega arith)))
 
   -- its room is enough
-  pub listing-most : (n : ℕ) (nodes : List ℕ) → d .size ≡ suc n → ((i : ℕ) → i < length nodes → getD nodes i 0 < d .size) → length nodes ≤ d .size
-      → length (listing d nodes) ≤ listingRoom n
+  pub listing-most : (nodes : List ℕ) → ((i : ℕ) → i < length nodes → getD nodes i 0 < d .size) → length nodes ≤ d .size → length (listing d nodes) ≤ listingRoom (d .size)
   unfolding listing
-  listing-most n nodes size there l =
+  listing-most nodes there l =
       omega (arith, length-append (firstLine (length nodes)) (lines d nodes), first-length (length nodes), few-digits 2 (length nodes) (omega arith), lines-most nodes there)

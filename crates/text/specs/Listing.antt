@@ -41,9 +41,9 @@ lines d (v ∷ vs) = line d v ++ lines d vs
 unfoldable pub listing : View → List ℕ → List ℕ
 listing d nodes = firstLine (length nodes) ++ lines d nodes
 
--- the room for a listing of nodes of n elements: a line has at most 13 bytes where numbers of nodes have three digits
+-- the room for a listing where there are so many nodes: 13 bytes for each line that there can be, numbers of three digits
 abbrev pub listingRoom : ℕ → ℕ
-listingRoom n = 13 * (n + 2)
+listingRoom nodes = 13 * (nodes + 1)
 
 -- `refused`
 abbrev pub refusedWord : List ℕ

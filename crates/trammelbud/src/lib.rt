@@ -1,24 +1,38 @@
 // The public calls. Each takes any bytes; the graph is read first, and the first refusal met is the answer. A call that is
 // turned away leaves what it was lent as it came.
 ghost use mathlib.Core.Path.{_≡_};
-ghost use Rattle.meaning.specs.Graphs.{LegalGraph};
 ghost use Rattle.writing.specs.Lent.{Leaves};
 ghost use Rattle.translator.specs.Translate.{translation};
 ghost use Rattle.convert.specs.Convert.{shredded, rebuilt};
 ghost use Rattle.announce.specs.Check.{checkOf};
-ghost use Rattle.runner.specs.Run.{Gives, runOf};
-ghost use Rattle.trammelbud.specs.Calls.{answerOf, readGraph, readUnder, documentCount, tablesCount, queryCount, programCount, askedUnder, askedOr, chosen, selectOf, told, listOf};
+ghost use Rattle.rooms.specs.Run.{Gives};
+ghost use Rattle.runner.specs.Run.{runOf};
+ghost use Rattle.trammelbud.specs.Calls.{readGraph, readDocument, readTables, readQuery, readProgram, selectOf, listOf};
+ghost use Rattle.trammelbud.specs.Parts.{answered, Countable};
 
 mod list;
 mod plan;
-mod select;
 
 use announce::Checked;
+use elements::BLANK;
 use meaning::Answer;
-use meaning::Graph;
 use meaning::Outcome;
+use meaning::SMALL;
+use numbers::u8_to_usize;
+use numbers::usize_to_u32;
 use writing::accepted;
 use writing::turned_away;
+
+// What a reader alone answers: what its file counts.
+fn counted(outcome: Outcome, count: usize) -> Answer
+    requires { ⌜ Countable outcome count ⌝ }
+    ensures { λ r. ⌜ r ≡ answered outcome count ⌝ }
+{
+    match outcome {
+        Outcome::Accepted => accepted(usize_to_u32(count)),
+        Outcome::Refused(refusal) => turned_away(refusal),
+    }
+}
 
 // A graph: how many types it has.
 #[no_mangle]
@@ -27,106 +41,49 @@ pub extern "C" fn tb_read_graph(gra: &[u8]) -> Answer
 {
     let read = graph::read(gra);
     let outcome = read.outcome;
-    match outcome {
-        Outcome::Accepted => accepted(read.graph.k as u32),
-        Outcome::Refused(refusal) => turned_away(refusal),
-    }
-}
-
-fn document_under(g: Graph, tre: &[u8]) -> Answer
-    ensures { λ r. ⌜ r ≡ answerOf (documentCount (now (tre .entry)) g) ⌝ }
-{
-    let read = document::read(tre, g);
-    let outcome = read.outcome;
-    match outcome {
-        Outcome::Accepted => accepted(read.document.count as u32),
-        Outcome::Refused(refusal) => turned_away(refusal),
-    }
+    counted(outcome, u8_to_usize(read.graph.k))
 }
 
 // A document: how many elements it has.
 #[no_mangle]
 pub extern "C" fn tb_read_document(gra: &[u8], tre: &[u8]) -> Answer
-    ensures { λ r. ⌜ r ≡ readUnder (documentCount (now (tre .entry))) (now (gra .entry)) ⌝ }
+    ensures { λ r. ⌜ r ≡ readDocument (now (gra .entry)) (now (tre .entry)) ⌝ }
 {
-    let read = graph::read(gra);
-    let outcome = read.outcome;
-    match outcome {
-        Outcome::Accepted => document_under(read.graph, tre),
-        Outcome::Refused(refusal) => turned_away(refusal),
-    }
-}
-
-fn tables_under(g: Graph, edg: &[u8]) -> Answer
-    ensures { λ r. ⌜ r ≡ answerOf (tablesCount (now (edg .entry)) g) ⌝ }
-{
-    let read = tables::read(edg, g);
-    let outcome = read.outcome;
-    match outcome {
-        Outcome::Accepted => accepted(read.document.count as u32),
-        Outcome::Refused(refusal) => turned_away(refusal),
-    }
+    let mut kept = [BLANK; SMALL.elements];
+    let opened = files::document(gra, tre, &mut kept);
+    let outcome = opened.outcome;
+    counted(outcome, opened.count)
 }
 
 // Tables: how many elements they hold.
 #[no_mangle]
 pub extern "C" fn tb_read_tables(gra: &[u8], edg: &[u8]) -> Answer
-    ensures { λ r. ⌜ r ≡ readUnder (tablesCount (now (edg .entry))) (now (gra .entry)) ⌝ }
+    ensures { λ r. ⌜ r ≡ readTables (now (gra .entry)) (now (edg .entry)) ⌝ }
 {
-    let read = graph::read(gra);
-    let outcome = read.outcome;
-    match outcome {
-        Outcome::Accepted => tables_under(read.graph, edg),
-        Outcome::Refused(refusal) => turned_away(refusal),
-    }
-}
-
-fn query_under(g: Graph, qry: &[u8]) -> Answer
-    ensures { λ r. ⌜ r ≡ answerOf (queryCount (now (qry .entry)) g) ⌝ }
-{
-    let read = query::read(qry, g.k);
-    let outcome = read.outcome;
-    match outcome {
-        Outcome::Accepted => accepted(read.nodes as u32),
-        Outcome::Refused(refusal) => turned_away(refusal),
-    }
+    let mut kept = [BLANK; SMALL.elements];
+    let opened = files::tables(gra, edg, &mut kept);
+    let outcome = opened.outcome;
+    counted(outcome, opened.count)
 }
 
 // A query: how many nodes it has.
 #[no_mangle]
 pub extern "C" fn tb_read_query(gra: &[u8], qry: &[u8]) -> Answer
-    ensures { λ r. ⌜ r ≡ readUnder (queryCount (now (qry .entry))) (now (gra .entry)) ⌝ }
+    ensures { λ r. ⌜ r ≡ readQuery (now (gra .entry)) (now (qry .entry)) ⌝ }
 {
-    let read = graph::read(gra);
-    let outcome = read.outcome;
-    match outcome {
-        Outcome::Accepted => query_under(read.graph, qry),
-        Outcome::Refused(refusal) => turned_away(refusal),
-    }
-}
-
-fn program_under(g: Graph, rel: &[u8]) -> Answer
-    ensures { λ r. ⌜ r ≡ answerOf (programCount (now (rel .entry)) g) ⌝ }
-{
-    let read = program::read(rel, g.k);
-    let outcome = read.outcome;
-    match outcome {
-        Outcome::Accepted => accepted(read.program.count as u32),
-        Outcome::Refused(refusal) => turned_away(refusal),
-    }
+    let opened = files::query(gra, qry);
+    let outcome = opened.outcome;
+    counted(outcome, u8_to_usize(opened.nodes))
 }
 
 // A program: how many steps it has.
 #[no_mangle]
 pub extern "C" fn tb_read_program(gra: &[u8], rel: &[u8]) -> Answer
-    ensures { λ r. ⌜ r ≡ readUnder (programCount (now (rel .entry))) (now (gra .entry)) ⌝ }
+    ensures { λ r. ⌜ r ≡ readProgram (now (gra .entry)) (now (rel .entry)) ⌝ }
 {
-    let read = graph::read(gra);
-    let outcome = read.outcome;
-    match outcome {
-        Outcome::Accepted => program_under(read.graph, rel),
-        Outcome::Refused(refusal) => turned_away(refusal),
-    }
+    let opened = files::program(gra, rel);
+    let outcome = opened.outcome;
+    counted(outcome, opened.program.count)
 }
 
 // The tables of a document. `out` needs 6 + k + 4n bytes; the length written is the answer.
@@ -134,7 +91,7 @@ pub extern "C" fn tb_read_program(gra: &[u8], rel: &[u8]) -> Answer
 pub extern "C" fn tb_shred(gra: &[u8], tre: &[u8], out: &mut [u8]) -> Answer
     ensures { λ r. ⌜ Leaves (shredded (now (gra .entry)) (now (tre .entry)) (now (out .entry))) r (now (out .exit)) ⌝ }
 {
-    convert::shred::shred(gra, tre, out)
+    convert::shred(gra, tre, out)
 }
 
 // The document of tables. `out` needs 5 + 5n bytes; the length written is the answer.
@@ -142,7 +99,7 @@ pub extern "C" fn tb_shred(gra: &[u8], tre: &[u8], out: &mut [u8]) -> Answer
 pub extern "C" fn tb_rebuild(gra: &[u8], edg: &[u8], out: &mut [u8]) -> Answer
     ensures { λ r. ⌜ Leaves (rebuilt (now (gra .entry)) (now (edg .entry)) (now (out .entry))) r (now (out .exit)) ⌝ }
 {
-    convert::rebuild::rebuild(gra, edg, out)
+    convert::rebuild(gra, edg, out)
 }
 
 // The program of a query. `out` needs 6 bytes and 3 for each step; the length written is the answer.
@@ -175,18 +132,6 @@ pub extern "C" fn tb_run(
     runner::run(gra, edg, rel, out, work)
 }
 
-fn select_under(g: Graph, edg: &[u8], qry: &[u8], out: &mut [u8], work: &mut [u8]) -> Answer
-    requires { ⌜ LegalGraph g ⌝ }
-    ensures { λ r. ⌜ Gives (askedOr chosen (askedUnder g (now (edg .entry)) (now (qry .entry))) (now (out .entry)) (now (work .entry))) r (now (out .exit)) (now (work .exit)) ⌝ }
-{
-    let read = tables::read(edg, g);
-    let outcome = read.outcome;
-    match outcome {
-        Outcome::Accepted => select::select_from(g, read.document, qry, out, work),
-        Outcome::Refused(refusal) => turned_away(refusal),
-    }
-}
-
 // The nodes that a query selects. `out` needs n+1 bytes for them, `work` 2,048 for each step of the query's program; their
 // number is the answer.
 #[no_mangle]
@@ -199,28 +144,18 @@ pub extern "C" fn tb_select(
 ) -> Answer
     ensures { λ r. ⌜ Gives (selectOf (now (gra .entry)) (now (edg .entry)) (now (qry .entry)) (now (out .entry)) (now (work .entry))) r (now (out .exit)) (now (work .exit)) ⌝ }
 {
-    let read = graph::read(gra);
-    let outcome = read.outcome;
-    match outcome {
-        Outcome::Accepted => select_under(read.graph, edg, qry, out, work),
-        Outcome::Refused(refusal) => turned_away(refusal),
+    let mut kept = [BLANK; SMALL.elements];
+    let plan = plan::make(gra, edg, qry, &mut kept);
+    let outcome = plan.outcome;
+    if let Outcome::Refused(refusal) = outcome {
+        return turned_away(refusal);
     }
+    let program = plan.program;
+    rooms::run_over(&kept, plan.count, program, out, work)
 }
 
-fn list_under(g: Graph, edg: &[u8], qry: &[u8], text: &mut [u8], work: &mut [u8]) -> Answer
-    requires { ⌜ LegalGraph g ⌝ }
-    ensures { λ r. ⌜ Gives (askedOr told (askedUnder g (now (edg .entry)) (now (qry .entry))) (now (text .entry)) (now (work .entry))) r (now (text .exit)) (now (work .exit)) ⌝ }
-{
-    let read = tables::read(edg, g);
-    let outcome = read.outcome;
-    match outcome {
-        Outcome::Accepted => list::list_from(g, read.document, qry, text, work),
-        Outcome::Refused(refusal) => turned_away(refusal),
-    }
-}
-
-// The listing of the nodes that a query selects. `text` needs its length, which is the answer, `work` 2,048 bytes for each
-// step of the query's program.
+// The listing of the nodes that a query selects. `text` needs 13(n+2) bytes, which the longest one takes, `work` 2,048 for
+// each step of the query's program; the listing's length is the answer.
 #[no_mangle]
 pub extern "C" fn tb_list(
     gra: &[u8],
@@ -231,10 +166,12 @@ pub extern "C" fn tb_list(
 ) -> Answer
     ensures { λ r. ⌜ Gives (listOf (now (gra .entry)) (now (edg .entry)) (now (qry .entry)) (now (text .entry)) (now (work .entry))) r (now (text .exit)) (now (work .exit)) ⌝ }
 {
-    let read = graph::read(gra);
-    let outcome = read.outcome;
-    match outcome {
-        Outcome::Accepted => list_under(read.graph, edg, qry, text, work),
-        Outcome::Refused(refusal) => turned_away(refusal),
+    let mut kept = [BLANK; SMALL.elements];
+    let plan = plan::make(gra, edg, qry, &mut kept);
+    let outcome = plan.outcome;
+    if let Outcome::Refused(refusal) = outcome {
+        return turned_away(refusal);
     }
+    let program = plan.program;
+    list::list(&kept, plan.count, program, text, work)
 }

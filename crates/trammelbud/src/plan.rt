@@ -1,32 +1,69 @@
-// The program of a query: translated into a file, and read from it.
+// The program that a query asks for: translated into a file, and read from it.
 ghost use mathlib.Core.Path.{_≡_};
-ghost use lib.ListN.{length};
-ghost use Rattle.meaning.specs.Graphs.{LegalGraph};
+ghost use Rattle.meaning.specs.Limits.{elementLimit};
+ghost use Rattle.elements.specs.Kept.{blankPlaces};
+ghost use Rattle.files.specs.Files.{Opens};
+ghost use Rattle.translator.specs.Ready.{Accepts};
 ghost use Rattle.translator.specs.Translate.{translatedQuery};
-ghost use Rattle.trammelbud.specs.Parts.{Planned};
-use meaning::Answer;
+ghost use Rattle.trammelbud.specs.Calls.{asked};
+ghost use Rattle.trammelbud.specs.Parts.{OfQuery, Planned};
 use meaning::Graph;
+use meaning::Outcome;
 use meaning::Program;
+use meaning::Reason;
+use meaning::Refusal;
+use numbers::u32_to_usize;
+use program::EMPTY;
+use program::ProgramRead;
 
-// What translating answers, and the program, which has no steps where that is a refusal.
+// The file of a program with as many steps as there may be.
+const FILE: usize = 78;
+
+// How many elements are kept, and the program to run over them.
 pub(crate) struct Plan {
-    pub answer: Answer,
+    pub outcome: Outcome,
+    pub count: usize,
     pub program: Program,
 }
 
-fn length_of(answer: Answer) -> usize
-    ensures { λ r. ⌜ r ≡ answer .count ⌝ }
+// The program of a query that was accepted. There is always room for its file, so too many steps are all that can be amiss.
+fn translated(g: Graph, qry: &[u8]) -> ProgramRead
+    requires { ⌜ Accepts g (now qry) ⌝ }
+    ensures { λ r. ⌜ Opens (translatedQuery g (now (qry .entry))) (r .outcome) (OfQuery g (r .program)) ⌝ }
 {
-    answer.count as usize
+    let mut rel = [0u8; FILE];
+    let answer = translator::write(g, qry, &mut rel);
+    if answer.number != 0 {
+        return ProgramRead {
+            outcome: Outcome::Refused(Refusal {
+                reason: Reason::Steps,
+            }),
+            program: EMPTY,
+        };
+    }
+    program::read(&rel[..u32_to_usize(answer.count)], g.k)
 }
 
-// The file of 24 steps has 78 bytes, so there is always room for it.
-pub(crate) fn make(g: Graph, qry: &[u8], rel: &mut [u8]) -> Plan
-    requires { ⌜ LegalGraph g × (length (now rel) ≡ 78) ⌝ }
-    ensures { λ r. ⌜ Planned (translatedQuery g (now (qry .entry))) r (now (rel .entry)) (now (rel .exit)) ⌝ }
+pub(crate) fn make(gra: &[u8], edg: &[u8], qry: &[u8], kept: &mut [u32]) -> Plan
+    requires { ⌜ now kept ≡ blankPlaces elementLimit ⌝ }
+    ensures { λ r. ⌜ Opens (asked (now (gra .entry)) (now (edg .entry)) (now (qry .entry))) (r .outcome) (Planned (now (kept .exit)) (r .count) (r .program)) ⌝ }
 {
-    let answer = translator::under(g, qry, rel);
-    let read = program::read(&rel[..length_of(answer)], g.k);
-    let program = read.program;
-    Plan { answer, program }
+    let opened = files::tables_then_query(gra, edg, qry, kept);
+    let count = opened.count;
+    let outcome = opened.outcome;
+    if let Outcome::Refused(_) = outcome {
+        return Plan {
+            outcome,
+            count,
+            program: EMPTY,
+        };
+    }
+    let found = translated(opened.graph, qry);
+    let outcome = found.outcome;
+    let program = found.program;
+    Plan {
+        outcome,
+        count,
+        program,
+    }
 }

@@ -1,0 +1,2 @@
+-- What is promised of the public calls together.
+pub mod Demands
