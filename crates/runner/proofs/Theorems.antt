@@ -1,9 +1,9 @@
 -- What is proved of a run, at the level of the code's contract: one statement a paragraph.
-use Prim.Native.Nat.{ℕ, _*_, _≤_}
+use Prim.Native.Nat.{ℕ, _*_, _≤_, _<_}
 use mathlib.Core.Path.{_≡_, refl, sym, ap, _∙_}
 use mathlib.Core.List.{List}
 use native.Mathlib.Omega.{arith}
-use lib.ListN.{length}
+use lib.ListN.{length, getD}
 use Rattle.meaning.specs.declared.Element.{Element}
 use Rattle.meaning.specs.declared.Graph.{Graph}
 use Rattle.meaning.specs.declared.Operation.{Operation}
@@ -32,9 +32,12 @@ module _ (d : View) (os : List Operation) where
   unfolding answer
   nodes-listed = listed-lists (d .size) (λ w. at (run d os) (last os) 0 w)
 
-  few-nodes : length (answer d os) ≤ d .size
+  pub few-nodes : length (answer d os) ≤ d .size
   unfolding answer
   few-nodes = tally-most (d .size) (λ w. at (run d os) (last os) 0 w)
+
+  pub nodes-below : (i : ℕ) → i < length (answer d os) → getD (answer d os) i 0 < d .size
+  nodes-below = nodes-listed .below
 
   -- what a run leaves that has its room
   pub performed-given : {out work : List ℕ} → Roomy d os out work

@@ -1,13 +1,4 @@
-pub mod Few
-pub mod Laws
-pub mod Determined
-pub mod Files
-pub mod Legal
-pub mod Named
-pub mod Given
-pub mod Demand1
-pub mod Translated
+-- The laws behind the public calls.
+pub mod Counts
 pub mod Plans
-pub mod Told
-pub mod Demand2
-pub mod Demand3
+pub mod Lists

@@ -1,5 +1,6 @@
 // The listing of the nodes that a program selects.
-ghost use mathlib.Core.Path.{_≡_};
+ghost use Prim.Native.Nat.{ℕ, _<_};
+ghost use Rattle.meaning.specs.Limits.{words};
 ghost use Rattle.meaning.specs.Operations.{answer};
 ghost use Rattle.meaning.specs.Records.{operationsIn};
 ghost use Rattle.rooms.specs.Ready.{shown, Ready};
@@ -24,7 +25,7 @@ pub(crate) fn list(
     out: &mut [u8],
     work: &mut [u8],
 ) -> Answer
-    requires { ⌜ Listed (now kept) count program ⌝ }
+    requires { ⌜ Ready (now kept) count program × ((v : ℕ) → shown (now kept) count .text v < words) ⌝ }
     ensures { λ r. ⌜ Gives (lists (shown (now (kept .entry)) count) (answer (shown (now (kept .entry)) count) (operationsIn program)) (operationsIn program) (now (out .entry)) (now (work .entry))) r (now (out .exit)) (now (work .exit)) ⌝ }
 {
     if out.len() < 13 * (count + 2) {

@@ -6,7 +6,7 @@ ghost use Rattle.files.specs.Files.{Opens};
 ghost use Rattle.translator.specs.Ready.{Accepts};
 ghost use Rattle.translator.specs.Translate.{translatedQuery};
 ghost use Rattle.trammelbud.specs.Calls.{asked};
-ghost use Rattle.trammelbud.specs.Parts.{OfQuery, Planned};
+ghost use Rattle.trammelbud.specs.Parts.{Translated, Planned};
 use meaning::Graph;
 use meaning::Outcome;
 use meaning::Program;
@@ -29,7 +29,7 @@ pub(crate) struct Plan {
 // The program of a query that was accepted. There is always room for its file, so too many steps are all that can be amiss.
 fn translated(g: Graph, qry: &[u8]) -> ProgramRead
     requires { ⌜ Accepts g (now qry) ⌝ }
-    ensures { λ r. ⌜ Opens (translatedQuery g (now (qry .entry))) (r .outcome) (OfQuery g (r .program)) ⌝ }
+    ensures { λ r. ⌜ Opens (translatedQuery g (now (qry .entry))) (r .outcome) (Translated g (r .program)) ⌝ }
 {
     let mut rel = [0u8; FILE];
     let answer = translator::write(g, qry, &mut rel);

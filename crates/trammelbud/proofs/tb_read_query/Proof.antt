@@ -1,17 +1,7 @@
--- The graph's refusal ends the call; under an accepted graph the other file's answer is the call's.
-use borrow.Author.Needs.{needs}
-use Rattle.trammelbud.proofs.Laws.{laws}
+-- The query counts its nodes.
+use Rattle.trammelbud.proofs.Counts.{laws}
 use Rattle.trammelbud.proofs.tb_read_query.Statement.{statement}
 use Rattle.trammelbud.proofs.tb_read_query.Tie as tie
 
 pub tb-read-query-spec : {M : Type 1} → statement M
-tb-read-query-spec =
-    tie.close
-    (tie.spec
-    (λ c κs. search needs)
-    (λ c. search needs)
-    (λ c κs. search needs)
-    (λ c. search needs)
-    (λ c κs. search needs)
-    (λ c. search laws)
-    (λ c. search laws))
+tb-read-query-spec = tie.close (tie.spec (λ c κs. search laws) (λ c κs. search laws) (λ c κs. search laws) (λ c. search laws))
