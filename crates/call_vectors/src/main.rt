@@ -3,10 +3,10 @@
 // `work`. A call that takes fewer files or buffers has arguments that it doesn't look at.
 ghost use Prim.Native.Nat.{_+_, _<_, _≤_, _^_};
 ghost use Rattle.io.specs.Counts.{Counts};
-use announce::Announced;
 use announce::Checked;
 use libc::STDOUT_FILENO;
 use loading::load;
+use masks::Announced;
 use meaning::Answer;
 
 // Arguments of a case.

@@ -10,7 +10,7 @@ use Rattle.meaning.specs.declared.Reason.{Reason}
 use Rattle.meaning.specs.declared.Reason.the-variants.{Ended, Mark, Version, Bound, Code, Kind, Edge, Number, Operand, Extra, Steps, Room}
 use Rattle.meaning.specs.declared.Refusal.{Refusal}
 use Rattle.meaning.specs.declared.Operation.{Operation}
-use Rattle.meaning.specs.Limits.{stepLimit}
+use Rattle.meaning.specs.Limits.{small, stepLimit, roomBytes}
 use Rattle.meaning.specs.Refused.{numberOf}
 use Rattle.meaning.specs.Documents.{View}
 use Rattle.meaning.specs.Queries.{selected}
@@ -18,15 +18,16 @@ use Rattle.meaning.specs.Operations.{answer}
 use Rattle.fields.specs.Read.{Read, got, refused, pick}
 use Rattle.writing.specs.Lent.{turnedAway, accepted, over, stored, lent}
 use Rattle.convert.specs.Convert.{shredded, rebuilt}
-use Rattle.announce.specs.declared.Announced.{Announced}
+use Rattle.masks.specs.declared.Announced.{Announced}
 use Rattle.announce.specs.Check.{checked, checkOf}
-use Rattle.announce.proofs.Announcement.{none-shown}
-use Rattle.runner.specs.Layout.{roomBytes, workByte, overwritten}
-use Rattle.runner.specs.Run.{Ran, performed, ran, runOf, leaves, untouched}
+use Rattle.masks.proofs.Announcement.{none-shown}
+use Rattle.rooms.specs.Layout.{workByte, overwritten}
+use Rattle.rooms.specs.Run.{Ran, performed, leaves, untouched}
+use Rattle.runner.specs.Run.{ran, runOf}
 use Rattle.translator.specs.Translate.{translation}
-use Rattle.trammelbud.specs.Calls.{Asked, answerOf, readGraph, readUnder, asked, askedOr, chosen, selectOf, told, listOf}
-use Rattle.text.specs.Listing.{listing}
-use Rattle.trammelbud.specs.Demands.{Answers, Writes, Runs, Checks, Demand1}
+use Rattle.trammelbud.specs.Calls.{Asked, answerOf, readGraph, readDocument, readTables, readQuery, readProgram, asked, askedOr, chosen, selectOf, told, listOf}
+use Rattle.text.specs.Listing.{listing, listingRoom}
+use Rattle.demands.specs.Demands.{Answers, Writes, Runs, Checks, Demand1}
 
 pub in-table : (r : Reason) → (numberOf r ≤ 12) × (0 < numberOf r)
 in-table Ended = (omega arith, omega arith)
@@ -70,9 +71,9 @@ away : (r : Refusal) (out work : List ℕ) → Runs out work (untouched r out wo
 away r out work = record { answers = turned-answers r; kept = λ h. (refl, refl) }
 
 leaves-runs : (room : ℕ) (bytes : List ℕ) (d : View) (os : List Operation) (out work : List ℕ) → Runs out work (leaves room bytes d os out work)
-leaves-runs room bytes d os out work = by-room (leb room (length out) && leb (roomBytes * length os) (length work))
+leaves-runs room bytes d os out work = by-room (leb room (length out) && leb (roomBytes (small .row) * length os) (length work))
   where
-    by-room : (b : Bool) → Runs out work (pick b (record { answer = accepted (length bytes); out = over 0 bytes out; work = overwritten (workByte d os) (roomBytes * length os) work }) (untouched (record { reason = Room }) out work))
+    by-room : (b : Bool) → Runs out work (pick b (record { answer = accepted (length bytes); out = over 0 bytes out; work = overwritten (workByte (small .row) d os) (roomBytes (small .row) * length os) work }) (untouched (record { reason = Room }) out work))
     by-room true = record { answers = accepted-answers (length bytes); kept = λ h. absurd (omega (arith, h)) }
     by-room false = away (record { reason = Room }) out work
 
@@ -92,7 +93,7 @@ chooses a out work = leaves-runs (a .view .size) (selected (a .view) (a .path)) 
 
 tells : (a : Asked) (out work : List ℕ) → Runs out work (told a out work)
 unfolding told
-tells a out work = let text = listing (a .view) (selected (a .view) (a .path)) in leaves-runs (length text) text (a .view) (a .program) out work
+tells a out work = leaves-runs (listingRoom (a .view .size)) (listing (a .view) (selected (a .view) (a .path))) (a .view) (a .program) out work
 
 checks : (e : Read (List Announced)) → Checks (checked e)
 unfolding checked
@@ -100,7 +101,7 @@ checks (got steps n) = record { number = omega arith; alone = λ h. absurd (omeg
 checks (refused r) = record { number = in-table (r .reason) .0; alone = λ h s A B. ap (λ r. r A B) (none-shown stepLimit s) }
 
 pub demand-1 : Demand1
-unfolding readGraph readUnder shredded rebuilt translation checkOf runOf selectOf listOf
+unfolding readGraph readDocument readTables readQuery readProgram shredded rebuilt translation checkOf runOf selectOf listOf
 demand-1 =
     record {
       read-graph = λ gra. reads _;

@@ -13,17 +13,17 @@ use Rattle.meaning.specs.Translation.{translated}
 use Rattle.meaning.proofs.Theorems.{translation-is-right}
 use Rattle.writing.specs.Lent.{fileIn}
 use Rattle.convert.specs.Convert.{shredded}
-use Rattle.convert.specs.RoundTrips.{tablesLength}
+use Rattle.shredder.specs.Shred.{tablesLength}
 use Rattle.convert.proofs.RoundTrips.{document-returns, tables-return}
 use Rattle.runner.specs.Run.{runOf}
 use Rattle.runner.specs.Promises.{Roomy}
 use Rattle.runner.proofs.Theorems.{run-keeps-its-promises}
 use Rattle.translator.specs.Translate.{translation}
-use Rattle.trammelbud.specs.Demands.{OfGraph, OfDocument, OfQuery, Names, Demand2}
-use Rattle.trammelbud.proofs.Legal.{graph-legal, document-accepted}
-use Rattle.trammelbud.proofs.Named.{names}
-use Rattle.trammelbud.proofs.Given.{select-names}
-use Rattle.trammelbud.proofs.Translated.{translate-answers, program-there}
+use Rattle.demands.specs.Demands.{OfGraph, OfDocument, OfQuery, Names, Demand2}
+use Rattle.demands.proofs.Legal.{graph-legal, document-accepted}
+use Rattle.demands.proofs.Named.{names}
+use Rattle.demands.proofs.Given.{select-names}
+use Rattle.demands.proofs.Translated.{translate-answers, program-there}
 
 module _ (gra : List ℕ) (g : Graph) (graph : OfGraph gra g) where
   runs : {tre qry : List ℕ} {es : List Element} {p : XPath} (a b out work : List ℕ) → OfDocument g tre es → OfQuery g qry p

@@ -8,7 +8,7 @@ use lib.ListN.{length}
 use Rattle.meaning.specs.declared.Element.{Element}
 use Rattle.meaning.specs.declared.Graph.{Graph}
 use Rattle.meaning.specs.declared.Operation.{Operation}
-use Rattle.meaning.specs.Limits.{document, elementLimit, stepLimit}
+use Rattle.meaning.specs.Limits.{small, document, elementLimit, stepLimit, rowBits}
 use Rattle.meaning.specs.Relations.{at}
 use Rattle.meaning.specs.Announcements.{announced}
 use Rattle.meaning.specs.Documents.{view, node}
@@ -18,32 +18,36 @@ use Rattle.meaning.proofs.Theorems.{announcements-are-sound, nothing-announced-
 use Rattle.fields.specs.Read.{Read, got, refused, bind}
 use Rattle.fields.specs.Write.{Bytes}
 use Rattle.rel.specs.Rel.{programFile}
-use Rattle.announce.specs.Check.{announcement, checked, checkOf}
+use Rattle.masks.specs.Announcement.{announcement}
+use Rattle.files.specs.Files.{mapped, under}
+use Rattle.files.proofs.Handed.{under-got, mapped-got}
+use Rattle.announce.specs.Check.{checked, checkOf}
 use Rattle.announce.proofs.Answers.{check-shows}
 use Rattle.writing.specs.Lent.{fileIn}
-use Rattle.runner.specs.Layout.{joined}
+use Rattle.rooms.specs.Layout.{joined}
 use Rattle.runner.specs.Run.{runOf}
 use Rattle.runner.specs.Promises.{Roomy, Promised}
 use Rattle.runner.proofs.Theorems.{run-keeps-its-promises, run-does-not-depend-on-buffers}
 use Rattle.translator.specs.Translate.{translation}
-use Rattle.trammelbud.specs.Demands.{OfGraph, OfTables, OfQuery, OfProgram, announcedBy, Demand3}
-use Rattle.trammelbud.proofs.Legal.{graph-legal, tables-accepted, program-legal}
-use Rattle.trammelbud.proofs.Translated.{program-there}
-use Rattle.trammelbud.proofs.Demand1.{in-table}
+use Rattle.demands.specs.Demands.{OfGraph, OfTables, OfQuery, OfProgram, announcedBy, Demand3}
+use Rattle.demands.proofs.Legal.{graph-legal, tables-accepted, program-legal}
+use Rattle.demands.proofs.Translated.{program-there}
+use Rattle.demands.proofs.Demand1.{in-table}
 
 module _ (gra : List ℕ) (g : Graph) (graph : OfGraph gra g) where
   passes : {rel : List ℕ} {os : List Operation} → OfProgram g rel os → (checkOf gra rel .number ≡ 0) × LegalProgram stepLimit (g .k) os
   unfolding checkOf checked
-  passes program = (rw (graph .accepts, program .accepts), program-legal program)
+  passes {rel} program = (rw (mapped-got (λ x. announcement (x .0) (x .1)) (under-got gra (λ g. programFile (g .k) rel 0) (graph .accepts) (program .accepts))), program-legal program)
 
   -- a check that answers 0 has read a program
-  was-read : (e : Read (List Operation)) → checked (bind e λ os n. got (announcement g os) n) .number ≡ 0 → (os : List Operation) × (n : ℕ) × (e ≡ got os n)
-  unfolding checked
+  was-read : (e : Read (List Operation)) → checked (mapped (λ x. announcement (x .0) (x .1)) (bind {B = Graph × List Operation} e λ os n. got (g, os) n)) .number ≡ 0
+      → (os : List Operation) × (n : ℕ) × (e ≡ got os n)
+  unfolding checked mapped
   was-read (got os n) h = (os, n, refl)
   was-read (refused r) h = absurd (omega (arith, h, in-table (r .reason) .1))
 
   accepts : {rel : List ℕ} → Bytes rel → checkOf gra rel .number ≡ 0 → (os : List Operation) × OfProgram g rel os
-  unfolding checkOf
+  unfolding checkOf under
   accepts {rel} bytes h =
       let r = was-read (programFile (g .k) rel 0) (rw (graph .accepts) at h) in
       (r .0, record { bytes = bytes; end = r .1; accepts = r .2 })
@@ -62,7 +66,7 @@ module _ (gra : List ℕ) (g : Graph) (graph : OfGraph gra g) where
         ∙ ap length (kept .lists ∙ nothing-announced-nothing-selected g (graph-legal graph) elementLimit es (tables-accepted tables) os
         λ B. sym (ap (λ r. r document B) (shown (last os))) ∙ none B)
 
-    announces : (s v w : ℕ) → s < length os → v < 128 → w < 128 → joined (runOf gra edg rel out work .work) s v w ≡ true
+    announces : (s v w : ℕ) → s < length os → v < rowBits (small .row) → w < rowBits (small .row) → joined (small .row) (runOf gra edg rel out work .work) s v w ≡ true
         → announcedBy (checkOf gra rel) s (node es v .kind) (node es w .kind) ≡ true
     announces s v w in-steps lv lw h =
         ap (λ r. r (node es v .kind) (node es w .kind)) (shown s)

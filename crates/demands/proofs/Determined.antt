@@ -6,9 +6,10 @@ use Rattle.meaning.specs.declared.Answer.{Answer}
 use Rattle.writing.specs.Lent.{Lent, Leaves}
 use Rattle.convert.specs.Convert.{shredded, rebuilt}
 use Rattle.announce.specs.Check.{checkOf}
-use Rattle.runner.specs.Run.{Ran, Gives, runOf}
+use Rattle.rooms.specs.Run.{Ran, Gives}
+use Rattle.runner.specs.Run.{runOf}
 use Rattle.translator.specs.Translate.{translation}
-use Rattle.trammelbud.specs.Calls.{readGraph, readUnder, documentCount, tablesCount, queryCount, programCount, selectOf, listOf}
+use Rattle.trammelbud.specs.Calls.{readGraph, readDocument, readTables, readQuery, readProgram, selectOf, listOf}
 
 -- a contract that two answers meet only if they are one
 abbrev pub Determines : {A : Type 0} → (A → Type 0) → Type 0
@@ -33,16 +34,16 @@ left-by r a b x y v w p q = let e = sym p ∙ q in (ap (λ z. z .answer) e, ap (
 pub read-graph : (gra : List ℕ) → Determines (λ a. a ≡ readGraph gra)
 read-graph gra = equal-to _
 
-pub read-document : (gra tre : List ℕ) → Determines (λ a. a ≡ readUnder (documentCount tre) gra)
+pub read-document : (gra tre : List ℕ) → Determines (λ a. a ≡ readDocument gra tre)
 read-document gra tre = equal-to _
 
-pub read-tables : (gra edg : List ℕ) → Determines (λ a. a ≡ readUnder (tablesCount edg) gra)
+pub read-tables : (gra edg : List ℕ) → Determines (λ a. a ≡ readTables gra edg)
 read-tables gra edg = equal-to _
 
-pub read-query : (gra qry : List ℕ) → Determines (λ a. a ≡ readUnder (queryCount qry) gra)
+pub read-query : (gra qry : List ℕ) → Determines (λ a. a ≡ readQuery gra qry)
 read-query gra qry = equal-to _
 
-pub read-program : (gra rel : List ℕ) → Determines (λ a. a ≡ readUnder (programCount rel) gra)
+pub read-program : (gra rel : List ℕ) → Determines (λ a. a ≡ readProgram gra rel)
 read-program gra rel = equal-to _
 
 pub shred : (gra tre out : List ℕ) → DeterminesBytes (Leaves (shredded gra tre out))

@@ -6,24 +6,29 @@ use lib.ListN.{length}
 use borrow.Author.Tests.{le-leb}
 use Rattle.meaning.specs.declared.Graph.{Graph}
 use Rattle.meaning.specs.declared.Element.{Element}
-use Rattle.meaning.specs.Limits.{stepLimit}
+use Rattle.meaning.specs.Limits.{elementLimit, stepLimit}
 use Rattle.meaning.specs.Documents.{view}
 use Rattle.meaning.specs.Queries.{XPath, selected}
 use Rattle.meaning.specs.Translation.{translated, stepCount}
+use Rattle.edg.specs.Edg.{tablesFile}
+use Rattle.query.specs.Qry.{queryFile}
+use Rattle.files.specs.Files.{mapped, then}
+use Rattle.files.proofs.Handed.{under-got, then-got}
 use Rattle.writing.proofs.Puts.{over-front}
 use Rattle.runner.specs.Promises.{Roomy}
-use Rattle.runner.proofs.Outcomes.{leaves-all}
+use Rattle.rooms.proofs.Outcomes.{leaves-all}
 use Rattle.translator.specs.Translate.{programOf}
-use Rattle.trammelbud.specs.Calls.{asked, askedUnder, askedOf, askedOr, chosen, selectOf}
-use Rattle.trammelbud.specs.Demands.{OfGraph, OfTables, OfQuery, Names}
-use Rattle.trammelbud.proofs.Named.{names}
+use Rattle.trammelbud.specs.Calls.{asked, asking, askedOr, chosen, selectOf}
+use Rattle.demands.specs.Demands.{OfGraph, OfTables, OfQuery, Names}
+use Rattle.demands.proofs.Named.{names}
 
 module _ {gra : List ℕ} {g : Graph} (graph : OfGraph gra g) where
   -- the one call names what the query selects
   pub select-names : {edg qry : List ℕ} {es : List Element} {p : XPath} (out work : List ℕ) → OfTables g edg es → OfQuery g qry p → stepCount p ≤ stepLimit
       → Roomy (view es) (translated g p) out work → Names (view es) p (selectOf gra edg qry out work)
-  unfolding selectOf asked askedUnder askedOf askedOr chosen programOf view
-  select-names {es = es} {p} out work tables query few room =
+  unfolding selectOf asked askedOr chosen programOf mapped view
+  select-names {edg} {qry} {es} {p} out work tables query few room =
       let nodes = selected (view es) p in
-      rw (graph .accepts, tables .accepts, query .accepts, le-leb (stepCount p) stepLimit few, leaves-all (view es .size) nodes (view es) (translated g p) out work (room .for-nodes) (room .for-steps))
+      let read = under-got gra (λ g. then (tablesFile elementLimit g edg 0) (queryFile (g .k) qry 0)) (graph .accepts) (then-got (tablesFile elementLimit g edg 0) (queryFile (g .k) qry 0) (tables .accepts) (query .accepts)) in
+      rw (read, le-leb (stepCount p) stepLimit few, leaves-all (view es .size) nodes (view es) (translated g p) out work (room .for-nodes) (room .for-steps))
       (names es p refl (sym (ap length (over-front nodes out))) (over-front nodes out))

@@ -14,7 +14,7 @@ use Rattle.tre.proofs.File.{document-read}
 use Rattle.edg.proofs.File.{tables-read}
 use Rattle.query.proofs.File.{query-read}
 use Rattle.rel.proofs.File.{program-read}
-use Rattle.trammelbud.specs.Demands.{OfGraph, OfDocument, OfTables, OfQuery, OfProgram}
+use Rattle.demands.specs.Demands.{OfGraph, OfDocument, OfTables, OfQuery, OfProgram}
 
 pub graph-legal : {gra : List ℕ} {g : Graph} → OfGraph gra g → LegalGraph g
 graph-legal {gra} {g} h = graph-read gra (h .bytes) g (h .end) (h .accepts) .0

@@ -11,9 +11,9 @@ use Rattle.meaning.specs.Documents.{view}
 use Rattle.meaning.specs.Queries.{XPath, reaches, selected}
 use Rattle.meaning.proofs.Tests.{and-in, and-right}
 use Rattle.meaning.proofs.Listed.{Lists, listed-lists}
-use Rattle.runner.specs.Run.{Ran}
+use Rattle.rooms.specs.Run.{Ran}
 use Rattle.runner.specs.Promises.{nodesIn}
-use Rattle.trammelbud.specs.Demands.{Names}
+use Rattle.demands.specs.Demands.{Names}
 
 module _ (es : List Element) (p : XPath) where
   selected-lists : Lists (suc (length es)) (λ w. view es .there w && reaches p (view es) 0 w) (selected (view es) p)

@@ -13,14 +13,17 @@ use Rattle.meaning.specs.Limits.{stepLimit}
 use Rattle.meaning.specs.Queries.{XPath}
 use Rattle.meaning.specs.Translation.{translated, stepCount}
 use Rattle.fields.specs.Read.{pick}
+use Rattle.query.specs.Qry.{queryFile}
 use Rattle.rel.specs.Rel.{programBytes}
+use Rattle.files.specs.Files.{mapped}
+use Rattle.files.proofs.Handed.{under-got}
 use Rattle.rel.proofs.Encoded.{program-bytes}
 use Rattle.writing.specs.Lent.{accepted, turnedAway, over, untouched, stored, lent, fileIn}
 use Rattle.writing.proofs.Stored.{stored-there, stored-file}
 use Rattle.translator.proofs.Checked.{file-length, translated-checked}
-use Rattle.translator.specs.Translate.{programOf, translatedQuery, translation}
-use Rattle.trammelbud.specs.Demands.{OfGraph, OfQuery, OfProgram}
-use Rattle.trammelbud.proofs.Legal.{graph-legal, query-legal}
+use Rattle.translator.specs.Translate.{programOf, translation}
+use Rattle.demands.specs.Demands.{OfGraph, OfQuery, OfProgram}
+use Rattle.demands.proofs.Legal.{graph-legal, query-legal}
 
 -- a file that was stored had its room
 stored-room : (file out : List ℕ) → stored file out .answer .number ≡ 0 → length file ≤ length out
@@ -38,12 +41,12 @@ module _ {gra : List ℕ} {g : Graph} (graph : OfGraph gra g) {qry : List ℕ} {
 
   -- a query of few steps is stored as its program; any other is turned away
   few-stored : stepCount p ≤ stepLimit → translation gra qry b ≡ stored file b
-  unfolding translation translatedQuery programOf lent
-  few-stored few = rw (graph .accepts, query .accepts, le-leb (stepCount p) stepLimit few)
+  unfolding translation programOf mapped lent
+  few-stored few = rw (under-got gra (λ g. queryFile (g .k) qry 0) (graph .accepts) (query .accepts), le-leb (stepCount p) stepLimit few)
 
   many-turned : leb (stepCount p) stepLimit ≡ false → translation gra qry b ≡ untouched (record { reason = Steps }) b
-  unfolding translation translatedQuery programOf lent
-  many-turned many = rw (graph .accepts, query .accepts, many)
+  unfolding translation programOf mapped lent
+  many-turned many = rw (under-got gra (λ g. queryFile (g .k) qry 0) (graph .accepts) (query .accepts), many)
 
   pub translate-answers : 6 + 3 * stepLimit ≤ length b
       → translation gra qry b .answer ≡ pick (leb (stepCount p) stepLimit) (accepted (6 + 3 * stepCount p)) (turnedAway (record { reason = Steps }))

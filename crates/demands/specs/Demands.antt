@@ -10,7 +10,7 @@ use Rattle.meaning.specs.declared.Element.{Element}
 use Rattle.meaning.specs.declared.Graph.{Graph}
 use Rattle.meaning.specs.declared.Operation.{Operation}
 use Rattle.meaning.specs.declared.Reason.the-variants.{Steps}
-use Rattle.meaning.specs.Limits.{document, elementLimit, stepLimit}
+use Rattle.meaning.specs.Limits.{small, document, elementLimit, stepLimit, rowBits}
 use Rattle.meaning.specs.Relations.{Relation, at}
 use Rattle.meaning.specs.Documents.{View, view, node}
 use Rattle.meaning.specs.Queries.{XPath, reaches}
@@ -25,15 +25,18 @@ use Rattle.query.specs.Qry.{queryFile}
 use Rattle.rel.specs.Rel.{programFile}
 use Rattle.writing.specs.Lent.{Lent, accepted, turnedAway, fileIn}
 use Rattle.convert.specs.Convert.{shredded, rebuilt}
-use Rattle.convert.specs.RoundTrips.{tablesLength, documentLength, DocumentReturns, TablesReturn}
+use Rattle.convert.specs.RoundTrips.{DocumentReturns, TablesReturn}
+use Rattle.shredder.specs.Shred.{tablesLength}
+use Rattle.rebuilder.specs.Rebuild.{documentLength}
 use Rattle.announce.specs.declared.Checked.{Checked}
-use Rattle.announce.specs.Pairs.{relOf}
+use Rattle.masks.specs.Pairs.{relOf}
 use Rattle.announce.specs.Check.{checkOf}
-use Rattle.runner.specs.Layout.{joined}
-use Rattle.runner.specs.Run.{Ran, runOf}
+use Rattle.rooms.specs.Layout.{joined}
+use Rattle.rooms.specs.Run.{Ran}
+use Rattle.runner.specs.Run.{runOf}
 use Rattle.runner.specs.Promises.{Roomy, nodesIn, Alike}
 use Rattle.translator.specs.Translate.{translation}
-use Rattle.trammelbud.specs.Calls.{readGraph, readUnder, documentCount, tablesCount, queryCount, programCount, selectOf, listOf}
+use Rattle.trammelbud.specs.Calls.{readGraph, readDocument, readTables, readQuery, readProgram, selectOf, listOf}
 
 -- 1. Every call answers 0, or one number of the table and 0; refused, it leaves what it was lent as it came.
 pub record Answers (a : Answer) : Type 0 where
@@ -58,10 +61,10 @@ pub record Checks (c : Checked) : Type 0 where
 
 pub record Demand1 : Type 0 where
   pub read-graph : (gra : List ℕ) → Answers (readGraph gra)
-  pub read-document : (gra tre : List ℕ) → Answers (readUnder (documentCount tre) gra)
-  pub read-tables : (gra edg : List ℕ) → Answers (readUnder (tablesCount edg) gra)
-  pub read-query : (gra qry : List ℕ) → Answers (readUnder (queryCount qry) gra)
-  pub read-program : (gra rel : List ℕ) → Answers (readUnder (programCount rel) gra)
+  pub read-document : (gra tre : List ℕ) → Answers (readDocument gra tre)
+  pub read-tables : (gra edg : List ℕ) → Answers (readTables gra edg)
+  pub read-query : (gra qry : List ℕ) → Answers (readQuery gra qry)
+  pub read-program : (gra rel : List ℕ) → Answers (readProgram gra rel)
   pub shred : (gra tre out : List ℕ) → Writes out (shredded gra tre out)
   pub rebuild : (gra edg out : List ℕ) → Writes out (rebuilt gra edg out)
   pub translate : (gra qry out : List ℕ) → Writes out (translation gra qry out)
@@ -120,8 +123,8 @@ pub record Demand2 (gra : List ℕ) (g : Graph) (graph : OfGraph gra g) : Type 0
       → Names (view es) p (runOf gra (fileIn (shredded gra tre a)) (fileIn (translation gra qry b)) out work)
   -- the rows of every step, ours or a client's, stand in the work area
   pub rows : {edg rel : List ℕ} {es : List Element} {os : List Operation} {out work : List ℕ} → OfTables g edg es → OfProgram g rel os
-      → Roomy (view es) os out work → (s v w : ℕ) → s < length os → v < 128 → w < 128
-      → joined (runOf gra edg rel out work .work) s v w ≡ at (run (view es) os) s v w
+      → Roomy (view es) os out work → (s v w : ℕ) → s < length os → v < rowBits (small .row) → w < rowBits (small .row)
+      → joined (small .row) (runOf gra edg rel out work .work) s v w ≡ at (run (view es) os) s v w
   -- and the one call names what the query selects
   pub selects : {edg qry : List ℕ} {es : List Element} {p : XPath} (out work : List ℕ) → OfTables g edg es → OfQuery g qry p
       → stepCount p ≤ stepLimit → Roomy (view es) (translated g p) out work → Names (view es) p (selectOf gra edg qry out work)
@@ -147,8 +150,8 @@ pub record Demand3 (gra : List ℕ) (g : Graph) (graph : OfGraph gra g) : Type 0
       → Alike (length os) (runOf gra edg rel out work) (runOf gra edg rel out′ work′)
   -- every row of every step joins a pair that was announced for it
   pub announces : {edg rel : List ℕ} {es : List Element} {os : List Operation} {out work : List ℕ} → OfTables g edg es → OfProgram g rel os
-      → Roomy (view es) os out work → (s v w : ℕ) → s < length os → v < 128 → w < 128
-      → joined (runOf gra edg rel out work .work) s v w ≡ true
+      → Roomy (view es) os out work → (s v w : ℕ) → s < length os → v < rowBits (small .row) → w < rowBits (small .row)
+      → joined (small .row) (runOf gra edg rel out work .work) s v w ≡ true
       → announcedBy (checkOf gra rel) s (node es v .kind) (node es w .kind) ≡ true
   -- nothing announced from the document node, nothing selected
   pub nothing : {edg rel : List ℕ} {es : List Element} {os : List Operation} {out work : List ℕ} → OfTables g edg es → OfProgram g rel os

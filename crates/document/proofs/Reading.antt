@@ -22,7 +22,7 @@ use Rattle.fields.specs.Outcomes.{outcomeOf}
 use Rattle.fields.proofs.Laws.{taken, handed, taken-passed, handed-passed, beside-got}
 use Rattle.elements.specs.declared.ElementsRead.{ElementsRead}
 use Rattle.elements.specs.Kept.{keptIn, Keeps}
-use Rattle.elements.proofs.Kept.{held-long}
+use Rattle.elements.proofs.Kept.{keeps-none, keeps-all}
 use Rattle.tre.specs.Tre.{nothingOpen, token, tokens, document, documentFile}
 use Rattle.tre.proofs.Turns.{token-moves, tokens-turn}
 use Rattle.document.specs.declared.Standing.{Standing}
@@ -70,20 +70,11 @@ module _ {w : Read (List Element)} (g : Graph) (s kept : List ℕ) {st : Standin
 
 pub ruleset token-laws = (tokens-start, turn-refused, turn-less, turn-last, turn-again, needs)
 
--- what is kept where a field turned the reading away, and where the reading was accepted
-module _ {e : Read (List Element)} (kept : List ℕ) where
-  none-kept : {x : Field} {r : Refusal} {a : ElementsRead} → x ≡ Refused r → a ≡ record { outcome = outcomeOf (readOf x); count = 0 } → e ≡ refused r → Keeps e kept a
-  unfolding keptIn
-  none-kept q i p = rw (i, q, p) (record { outcome = refl; count = refl; elements = refl; room = omega arith })
-
-  all-kept : (count : ℕ) {n : ℕ} → count ≤ length kept → e ≡ got (keptIn kept count) n → Keeps e kept (record { outcome = Outcome.Accepted; count = count })
-  all-kept count room p = rw p (record { outcome = refl; count = sym (held-long kept count room); elements = refl; room = room })
-
 module _ (g : Graph) (s kept : List ℕ) {b : Cursor} (z : b .at ≡ 0) {x : Field} (p : readOf x ≡ header 0x54 0x52 0x45 1 s (b .at)) where
   pub read-headless : {r : Refusal} {a : ElementsRead} → x ≡ Refused r → a ≡ record { outcome = outcomeOf (readOf x); count = 0 }
       → Keeps (documentFile elementLimit g s 0) kept a
   unfolding documentFile document
-  read-headless q e = none-kept kept q e (simp (handed (rw z at p) q))
+  read-headless q e = keeps-none kept e q (simp (handed (rw z at p) q))
 
   module _ {v : ℕ} {c : Cursor} (q : x ≡ Got v c) {turn : Turn} (t : Answers (λ o. o .elements) kept turn (tokens (length s) elementLimit g nothingOpen s (c .at))) where
     whole : documentFile elementLimit g s 0 ≡ bind (beside (turn .next) (openIn kept (turn .state) .elements)) (λ es at. bind (end s at) (λ _ n. got es n))
@@ -92,15 +83,15 @@ module _ (g : Graph) (s kept : List ℕ) {b : Cursor} (z : b .at ≡ 0) {x : Fie
 
     pub read-refused : {r : Refusal} {a : ElementsRead} → turn .next ≡ Refused r → a ≡ record { outcome = outcomeOf (readOf (turn .next)); count = 0 }
         → Keeps (documentFile elementLimit g s 0) kept a
-    read-refused i e = none-kept kept i e (rw (whole, i))
+    read-refused i e = keeps-none kept e i (rw (whole, i))
 
     module _ {u : ℕ} {last : Cursor} (i : turn .next ≡ Got u last) {y : Field} (e : readOf y ≡ passed (end s (last .at))) where
       pub read-extra : {r : Refusal} {a : ElementsRead} → y ≡ Refused r → a ≡ record { outcome = outcomeOf (readOf y); count = 0 }
           → Keeps (documentFile elementLimit g s 0) kept a
-      read-extra j k = none-kept kept j k (rw (whole, i, handed-passed (end s (last .at)) e j))
+      read-extra j k = keeps-none kept k j (rw (whole, i, handed-passed (end s (last .at)) e j))
 
       pub read-whole : {m : ℕ} {past : Cursor} → y ≡ Got m past → Keeps (documentFile elementLimit g s 0) kept (record { outcome = Outcome.Accepted; count = turn .state .count })
       unfolding openIn
-      read-whole {past = past} j = all-kept kept (turn .state .count) {n = past .at} (omega (arith, t .room .long, t .room .most)) (rw (whole, i, taken-passed (end s (last .at)) e j))
+      read-whole {past = past} j = keeps-all kept {es = keptIn kept (turn .state .count)} {n = past .at} (rw (whole, i, taken-passed (end s (last .at)) e j)) (omega (arith, t .room .long, t .room .most)) refl
 
 pub ruleset laws = (read-headless, read-refused, read-extra, read-whole, needs)

@@ -5,20 +5,15 @@ use mathlib.Core.List.{List, [], _∷_, map}
 use native.Mathlib.Omega.{arith}
 use lib.ListN.{length, getD, take, List·getD-map}
 use lib.Seq.{take-at, getD-take, drop-cons}
-use Rattle.meaning.specs.declared.Element.{Element}
 use Rattle.meaning.specs.declared.Operation.{Operation}
 use Rattle.meaning.specs.declared.Operation.the-variants.{Itself}
 use Rattle.meaning.specs.declared.Program.{Program}
 use Rattle.meaning.specs.declared.Step.{Step}
-use Rattle.meaning.specs.Records.{documentOf, elementsIn, blankStep, stepsFrom, programOf, operationsIn}
+use Rattle.meaning.specs.Records.{blankStep, stepsFrom, programOf, operationsIn}
 
 -- what stands at a place of a list does not depend on what would stand past its end
 pub at-any : {A : Type 0} (xs : List A) (i : ℕ) (d e : A) → i < length xs → getD xs i d ≡ getD xs i e
 at-any xs i d e l = cc (drop-cons xs i d l, drop-cons xs i e l)
-
-pub document-holds : (es : List Element) → elementsIn (documentOf es) ≡ es
-unfolding elementsIn documentOf
-document-holds es = take-at es _ (length es) refl
 
 pub steps-length : (s : ℕ) (os : List Operation) → length (stepsFrom s os) ≡ length os
 unfolding stepsFrom

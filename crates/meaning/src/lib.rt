@@ -16,12 +16,6 @@ pub struct Element {
     pub text: u16,
 }
 
-// The element record: elements 1 to count, element i at place i-1.
-pub struct Document {
-    pub count: usize,
-    pub elements: [Element; 127],
-}
-
 // What depends on how many elements a document may have: that number, the bytes of a row of bits, one for each node, and the
 // bytes of a node's number.
 pub struct Sizes {
@@ -87,12 +81,6 @@ pub struct Refusal {
 pub enum Outcome {
     Accepted,
     Refused(Refusal),
-}
-
-// A document as a reader hands it on: with no elements where it was refused.
-pub struct DocumentRead {
-    pub outcome: Outcome,
-    pub document: Document,
 }
 
 // What a call answers: 0 and a count, or the number of a reason and 0.

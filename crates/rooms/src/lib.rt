@@ -2,11 +2,9 @@
 ghost use mathlib.Core.Path.{_≡_};
 ghost use Prim.Native.Nat.{_*_, _≤_, _<_};
 ghost use lib.ListN.{length};
-ghost use Rattle.meaning.specs.declared.Reason.the-variants.{Room};
 ghost use Rattle.meaning.specs.Limits.{roomBytes};
 ghost use Rattle.meaning.specs.Operations.{rows};
 ghost use Rattle.meaning.specs.Records.{operationsIn};
-ghost use Rattle.writing.specs.Lent.{turnedAway};
 ghost use Rattle.rooms.specs.Layout.{workByte, overwritten};
 ghost use Rattle.rooms.specs.Rooms.{RowWidth, Made};
 ghost use Rattle.rooms.specs.Ready.{shown, Ready};
@@ -21,7 +19,6 @@ use meaning::Answer;
 use meaning::Operation;
 use meaning::Program;
 use meaning::Reason;
-use meaning::Refusal;
 use meaning::SMALL;
 use rows::Mix;
 
@@ -121,16 +118,6 @@ fn perform(work: &mut [u8], kept: &[u32], count: usize, program: Program, width:
     }
 }
 
-// A lent buffer is too short.
-fn short() -> Answer
-    ensures { λ r. ⌜ r ≡ turnedAway (record { reason = Room }) ⌝ }
-{
-    let refusal = Refusal {
-        reason: Reason::Room,
-    };
-    writing::turned_away(refusal)
-}
-
 // Runs a program over the first count elements that are kept. Where a buffer is too short, nothing is written to either.
 pub fn run_over(
     kept: &[u32],
@@ -146,10 +133,10 @@ pub fn run_over(
     let size = count + 1;
     let steps = program.count;
     if out.len() < size {
-        return short();
+        return writing::refused(Reason::Room);
     }
     if work.len() < room_at(steps, width) {
-        return short();
+        return writing::refused(Reason::Room);
     }
     perform(work, kept, count, program, width);
     let selected = row::read(work, room_at(steps - 1, width), 0, width);
