@@ -263,8 +263,12 @@ fn the_longest_of_each_file() {
     let tre = tre(&[&[1, 15, 255, 255], &inner[..], &[2]].concat());
     let edg = shredded(&gra, &tre);
     assert_eq!((edg.len(), tre.len()), (530, 640));
-    let (mut text, mut work) = ([0; 1563], [0; 8 * 2048]);
+    let (mut text, mut work) = ([0; 1677], [0; 8 * 2048]);
     let all = qry(&[5, 1, 1]);
+    assert_eq!(
+        calls::list(&gra, &edg, &all, &mut text[1..], &mut work).number,
+        12
+    );
     let answer = calls::list(&gra, &edg, &all, &mut text, &mut work);
     assert_eq!((answer.number, answer.count), (0, 1563));
     // A path of 24 nodes, filtered by text.

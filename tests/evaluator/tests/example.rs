@@ -8,6 +8,9 @@ use evaluator::{calls, plan};
 
 const WORK: usize = 24 * 2048;
 
+/// Room for the listing of any query on the example: 13 bytes for each of its 8 elements, the document node and the first line.
+const LISTING: usize = 13 * (8 + 2);
+
 fn translated(asked: &Asked) -> Vec<u8> {
     let plan = plan::translate(&example::gra(), &asked.qry).ok();
     plan.expect("a query of the example is translated")
@@ -117,7 +120,7 @@ fn steps_are_nodes_and_five_for_each_deep_and_one_for_each_not() {
 
 #[test]
 fn fifth_query_is_listed_as_printed() {
-    let (mut text, mut work) = ([b'?'; 40], [0; WORK]);
+    let (mut text, mut work) = ([b'?'; LISTING], [0; WORK]);
     let qry = &example::queries()[4].qry;
     let answer = calls::list(&example::gra(), &example::edg(), qry, &mut text, &mut work);
     let printed = b"selected 3\n4 2 7\n6 2 8\n7 2 7\n";
@@ -128,11 +131,12 @@ fn fifth_query_is_listed_as_printed() {
 
 #[test]
 fn first_query_lists_the_document_node() {
-    let (mut text, mut work) = ([0; 18], [0; 2048]);
+    let (mut text, mut work) = ([b'?'; LISTING], [0; 2048]);
     let qry = &example::queries()[0].qry;
     let answer = calls::list(&example::gra(), &example::edg(), qry, &mut text, &mut work);
     assert_eq!((answer.number, answer.count), (0, 18));
-    assert_eq!(text, *b"selected 1\n0 16 0\n");
+    assert_eq!(text[..18], *b"selected 1\n0 16 0\n");
+    assert!(text[18..].iter().all(|&byte| byte == b'?'));
 }
 
 /// Kinds 0 archive, 1 group, 2 station, 3 remark, 16 the document node.
