@@ -213,6 +213,20 @@ static size_t length_for(size_t room, int bits) {
     }
 }
 
+/* The room that an accepted call asks for, of the first buffer: a byte for each
+ * node, 13 for each line of the longest listing, or what it writes. */
+static size_t room_asked(int call, uint32_t elements, uint32_t count) {
+    switch (call) {
+    case RUN:
+    case SELECT:
+        return elements + 1;
+    case LIST:
+        return 13 * ((size_t)elements + 2);
+    default:
+        return count;
+    }
+}
+
 /* Makes a call that writes: in plenty of room over two fillings, and in the
  * room that the input tells. `elements` and `steps` are those of its files. */
 static const result *hold_writer(int call, uint8_t rooms, uint32_t elements, uint32_t steps) {
@@ -221,13 +235,13 @@ static const result *hold_writer(int call, uint8_t rooms, uint32_t elements, uin
     bytes out = lend(0, plenty[0], 0x00), work = lend(1, plenty[1], 0x00);
     made->answer = make(call, out, work);
     tell(call, made->answer, file[last_file(call)].len);
-    int accepted = made->answer.number == 0, runs = call == RUN || call == SELECT;
+    int accepted = made->answer.number == 0;
     HOLD(made->answer.count <= (accepted ? plenty[0] : 0));
     memcpy(made->out, out.start, plenty[0]);
     memcpy(made->work, work.start, plenty[1]);
     made->written[0] = made->answer.count;
     made->written[1] = accepted ? (size_t)steps * TB_STEP_ROOM : 0;
-    made->room[0] = runs ? elements + 1 : made->answer.count;
+    made->room[0] = room_asked(call, elements, made->answer.count);
     made->room[1] = made->written[1];
     HOLD(all(made->out + made->written[0], plenty[0] - made->written[0], 0x00));
     HOLD(all(made->work + made->written[1], plenty[1] - made->written[1], 0x00));

@@ -1,4 +1,4 @@
-// A row of a room: of the room that starts at a place, the row of a number. Here alone is a row two words.
+// A row of a room: of the room that starts at a place, the row of a number.
 ghost use mathlib.Core.Path.{_≡_};
 ghost use Prim.Native.Nat.{_+_, _≤_, _<_};
 ghost use lib.ListN.{length};
