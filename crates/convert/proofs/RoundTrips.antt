@@ -44,11 +44,11 @@ trip file before out rest {there} back e room f room-back =
     }
 
 module _ (gra : List ℕ) (g : Graph) (m : ℕ) (graph : graphFile gra 0 ≡ got g m) {es : List Element} {n : ℕ} where
-  shredded-is : (tre out : List ℕ) → documentFile elementLimit g tre 0 ≡ got es n → shredded gra tre out ≡ stored (tablesBytes g es) out
+  pub shredded-is : (tre out : List ℕ) → documentFile elementLimit g tre 0 ≡ got es n → shredded gra tre out ≡ stored (tablesBytes g es) out
   unfolding shredded lent
   shredded-is tre out h = rw (mapped-got (λ x. tablesBytes (x .0) (x .1)) (under-got gra (λ g. documentFile elementLimit g tre 0) graph h))
 
-  rebuilt-is : (edg out : List ℕ) → tablesFile elementLimit g edg 0 ≡ got es n → rebuilt gra edg out ≡ stored (documentBytes es) out
+  pub rebuilt-is : (edg out : List ℕ) → tablesFile elementLimit g edg 0 ≡ got es n → rebuilt gra edg out ≡ stored (documentBytes es) out
   unfolding rebuilt lent
   rebuilt-is edg out h = rw (mapped-got (λ x. documentBytes (x .1)) (under-got gra (λ g. tablesFile elementLimit g edg 0) graph h))
 

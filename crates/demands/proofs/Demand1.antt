@@ -1,119 +1,297 @@
--- Every call answers 0, or one number of the table and 0; refused, it leaves what it was lent as it came.
-use Prim.Native.Nat.{ℕ, _*_, _≤_, _<_}
-use mathlib.Core.Path.{refl, ap}
-use mathlib.Core.Bool.{Bool, true, false, _&&_}
+-- Every call accepts exactly what encodes something legal and has its room; otherwise it answers one number of the table and leaves
+-- what it was lent as it came.
+use Prim.Native.Nat.{ℕ, suc, _-_, _*_, _≤_, _<_}
+use mathlib.Core.Path.{_≡_, refl, ap, subst, _∙_}
+use mathlib.Core.Bool.{true, _&&_}
 use mathlib.Core.List.{List}
 use native.Mathlib.Omega.{arith}
-use lib.Dec.{leb}
 use lib.ListN.{length}
-use Rattle.meaning.specs.declared.Reason.{Reason}
-use Rattle.meaning.specs.declared.Reason.the-variants.{Ended, Mark, Version, Bound, Code, Kind, Edge, Number, Operand, Extra, Steps, Room}
-use Rattle.meaning.specs.declared.Refusal.{Refusal}
+use borrow.Author.Tests.{le-leb, leb-true}
+use Rattle.meaning.specs.declared.Answer.{Answer}
+use Rattle.meaning.specs.declared.Element.{Element}
+use Rattle.meaning.specs.declared.Graph.{Graph}
 use Rattle.meaning.specs.declared.Operation.{Operation}
-use Rattle.meaning.specs.Limits.{small, stepLimit, roomBytes}
-use Rattle.meaning.specs.Refused.{numberOf}
-use Rattle.meaning.specs.Documents.{View}
-use Rattle.meaning.specs.Queries.{selected}
+use Rattle.meaning.specs.Limits.{types, small, elementLimit, queryLimit, stepLimit, roomBytes}
+use Rattle.meaning.specs.Graphs.{LegalGraph}
+use Rattle.meaning.specs.Documents.{View, view, isElement, Accepted}
+use Rattle.meaning.specs.Queries.{XPath, queryNodes, reaches, selected}
 use Rattle.meaning.specs.Operations.{answer}
-use Rattle.fields.specs.Read.{Read, got, refused, pick}
-use Rattle.writing.specs.Lent.{turnedAway, accepted, over, stored, lent}
+use Rattle.meaning.specs.Translation.{translated, stepCount}
+use Rattle.meaning.proofs.Theorems.{step-count-written}
+use Rattle.meaning.proofs.Views.{accepted-keeps}
+use Rattle.meaning.proofs.KindSets.{edge-types}
+use Rattle.fields.specs.Read.{Read, got, refused, bind}
+use Rattle.fields.specs.Write.{Bytes}
+use Rattle.fields.proofs.Formats.{bind-out, pick-out, got-same}
+use Rattle.graph.specs.Gra.{graphFile}
+use Rattle.tre.specs.Tre.{documentBytes}
+use Rattle.edg.specs.Edg.{tablesFile, tablesBytes}
+use Rattle.query.specs.Qry.{queryFile}
+use Rattle.rel.specs.Rel.{programBytes}
+use Rattle.files.specs.Files.{under, mapped, documentUnder, tablesUnder, queryUnder, programUnder, tablesThenProgram, tablesThenQuery, then}
+use Rattle.files.proofs.Handed.{mapped-got}
+use Rattle.writing.specs.Lent.{Lent, lent}
 use Rattle.convert.specs.Convert.{shredded, rebuilt}
-use Rattle.masks.specs.declared.Announced.{Announced}
-use Rattle.announce.specs.Check.{checked, checkOf}
-use Rattle.masks.proofs.Announcement.{none-shown}
-use Rattle.rooms.specs.Layout.{workByte, overwritten}
-use Rattle.rooms.specs.Run.{Ran, performed, leaves, untouched}
-use Rattle.runner.specs.Run.{ran, runOf}
-use Rattle.translator.specs.Translate.{translation}
-use Rattle.trammelbud.specs.Calls.{Asked, answerOf, readGraph, readDocument, readTables, readQuery, readProgram, asked, askedOr, chosen, selectOf, told, listOf}
+use Rattle.masks.specs.Announcement.{announcement}
+use Rattle.announce.specs.declared.Checked.{Checked}
+use Rattle.announce.specs.Check.{checkOf}
+use Rattle.rows.proofs.Answers.{tally-most}
+use Rattle.rooms.specs.Run.{Ran, performed}
+use Rattle.runner.specs.Run.{ran, toRun, runOf}
+use Rattle.runner.proofs.Theorems.{few-nodes}
 use Rattle.text.specs.Listing.{listing, listingRoom}
-use Rattle.demands.specs.Demands.{Answers, Writes, Runs, Checks, Demand1}
+use Rattle.text.proofs.LineLaws.{listing-most}
+use Rattle.translator.specs.Translate.{programOf, translation}
+use Rattle.trammelbud.specs.Calls.{answerOf, readGraph, readDocument, readTables, readQuery, readProgram, Asked, asking, asked, askedOr, chosen, selectOf, told, listOf}
+use Rattle.trammelbud.proofs.Lists.{kinds-small}
+use Rattle.trammelbud.proofs.Outcomes.{tb-read-graph, tb-read-document, tb-read-tables, tb-read-query, tb-read-program, tb-shred, tb-rebuild, tb-translate, tb-check, tb-run, tb-select, tb-list}
+use Rattle.trammelbud.proofs.Carried.{read-graph-is, read-document-is, read-tables-is, read-query-is, read-program-is, shred-is, rebuild-is, translate-is, check-is, run-is, select-is, list-is}
+use Rattle.demands.specs.Demands.{GraphFile, DocumentFile, TablesFile, QueryFile, ProgramFile, Under, Room, TextRoom, Answers, Writes, Runs, Checks, Demand1}
+use Rattle.demands.proofs.Readings.{Came, ReadsAs, graph-got, graph-file, QueryLeft, document-reads, tables-reads, query-reads, program-reads, then-reads, under-came, under-back}
+use Rattle.demands.proofs.Judged.{Judged, kept, Taken, answers, read-judged, lent-judged, lent-rest, check-judged, left, run-judged, run-rest}
+use Rattle.demands.proofs.Asking.{asks, few-asked}
+use Rattle.demands.proofs.Named.{selected-lists}
 
-pub in-table : (r : Reason) → (numberOf r ≤ 12) × (0 < numberOf r)
-in-table Ended = (omega arith, omega arith)
-in-table Mark = (omega arith, omega arith)
-in-table Version = (omega arith, omega arith)
-in-table Bound = (omega arith, omega arith)
-in-table Code = (omega arith, omega arith)
-in-table Kind = (omega arith, omega arith)
-in-table Edge = (omega arith, omega arith)
-in-table Number = (omega arith, omega arith)
-in-table Operand = (omega arith, omega arith)
-in-table Extra = (omega arith, omega arith)
-in-table Steps = (omega arith, omega arith)
-in-table Room = (omega arith, omega arith)
+-- what was made was made of something
+mapped-out : {A B : Type 0} (f : A → B) (e : Read A) {y : B} {n : ℕ} → mapped f e ≡ got y n → (x : A) × (e ≡ got x n) × (f x ≡ y)
+unfolding mapped
+mapped-out f e h =
+    let (x, m, p, q) = bind-out e (λ a n. got (f a) n) h in
+    let (same, end) = got-same q in
+    (x, p ∙ ap (got x) end, same)
 
-turned-answers : (r : Refusal) → Answers (turnedAway r)
-turned-answers r = record { number = in-table (r .reason) .0; alone = λ h. refl }
+-- a query has a program where its steps are few, and that one
+program-came : (g : Graph) (p : XPath) (n : ℕ) → stepCount p ≤ stepLimit → programOf g p n ≡ got (translated g p) n
+unfolding programOf
+program-came g p n few = rw (le-leb (stepCount p) stepLimit few)
 
-accepted-answers : (n : ℕ) → Answers (accepted n)
-accepted-answers n = record { number = omega arith; alone = λ h. absurd (omega (arith, h)) }
+program-back : (g : Graph) (p : XPath) (m : ℕ) {os : List Operation} {n : ℕ} → programOf g p m ≡ got os n → (stepCount p ≤ stepLimit) × (translated g p ≡ os)
+unfolding programOf
+program-back g p m h = let (few, is) = pick-out _ _ _ h in (leb-true (stepCount p) stepLimit few, got-same is .0)
 
-reads : (e : Read ℕ) → Answers (answerOf e)
-unfolding answerOf
-reads (got n at) = accepted-answers n
-reads (refused r) = turned-answers r
-
-writes-stored : (file out : List ℕ) → Writes out (stored file out)
-unfolding stored
-writes-stored file out = by-room (leb (length file) (length out))
-  where
-    by-room : (b : Bool) → Writes out (pick b (record { answer = accepted (length file); bytes = over 0 file out }) (record { answer = turnedAway (record { reason = Room }); bytes = out }))
-    by-room true = record { answers = accepted-answers (length file); kept = λ h. absurd (omega (arith, h)) }
-    by-room false = record { answers = turned-answers (record { reason = Room }); kept = λ h. refl }
-
-writes : (e : Read (List ℕ)) (out : List ℕ) → Writes out (lent e out)
-unfolding lent
-writes (got file at) out = writes-stored file out
-writes (refused r) out = record { answers = turned-answers r; kept = λ h. refl }
-
-away : (r : Refusal) (out work : List ℕ) → Runs out work (untouched r out work)
-away r out work = record { answers = turned-answers r; kept = λ h. (refl, refl) }
-
-leaves-runs : (room : ℕ) (bytes : List ℕ) (d : View) (os : List Operation) (out work : List ℕ) → Runs out work (leaves room bytes d os out work)
-leaves-runs room bytes d os out work = by-room (leb room (length out) && leb (roomBytes (small .row) * length os) (length work))
-  where
-    by-room : (b : Bool) → Runs out work (pick b (record { answer = accepted (length bytes); out = over 0 bytes out; work = overwritten (workByte (small .row) d os) (roomBytes (small .row) * length os) work }) (untouched (record { reason = Room }) out work))
-    by-room true = record { answers = accepted-answers (length bytes); kept = λ h. absurd (omega (arith, h)) }
-    by-room false = away (record { reason = Room }) out work
-
-runs : (e : Read (View × List Operation)) (out work : List ℕ) → Runs out work (ran e out work)
+-- what a run and what the calls on a query leave, by their readings
+ran-left : (e : Read (View × List Operation)) (out work : List ℕ) → ran e out work ≡ left (λ u. u .0 .size) (λ u. answer (u .0) (u .1)) (λ u. u .0) (λ u. u .1) out work e
 unfolding ran performed
-runs (got (d, os) at) out work = leaves-runs (d .size) (answer d os) d os out work
-runs (refused r) out work = away r out work
+ran-left (got u n) out work = refl
+ran-left (refused r) out work = refl
 
-asks : (f : Asked → List ℕ → List ℕ → Ran) → ((a : Asked) (out work : List ℕ) → Runs out work (f a out work)) → (e : Read Asked) (out work : List ℕ) → Runs out work (askedOr f e out work)
-unfolding askedOr
-asks f h (got a at) out work = h a out work
-asks f h (refused r) out work = away r out work
+chosen-left : (e : Read Asked) (out work : List ℕ) → askedOr chosen e out work ≡ left (λ a. a .view .size) (λ a. selected (a .view) (a .path)) (λ a. a .view) (λ a. a .program) out work e
+unfolding askedOr chosen
+chosen-left (got a n) out work = refl
+chosen-left (refused r) out work = refl
 
-chooses : (a : Asked) (out work : List ℕ) → Runs out work (chosen a out work)
-unfolding chosen
-chooses a out work = leaves-runs (a .view .size) (selected (a .view) (a .path)) (a .view) (a .program) out work
+told-left : (e : Read Asked) (out work : List ℕ)
+    → askedOr told e out work ≡ left (λ a. listingRoom (a .view .size)) (λ a. listing (a .view) (selected (a .view) (a .path))) (λ a. a .view) (λ a. a .program) out work e
+unfolding askedOr told
+told-left (got a n) out work = refl
+told-left (refused r) out work = refl
 
-tells : (a : Asked) (out work : List ℕ) → Runs out work (told a out work)
-unfolding told
-tells a out work = leaves-runs (listingRoom (a .view .size)) (listing (a .view) (selected (a .view) (a .path))) (a .view) (a .program) out work
+-- no more nodes are selected than there are, and their listing has the room that is asked for
+selected-most : (es : List Element) (p : XPath) → length (selected (view es) p) ≤ suc (length es)
+unfolding selected view
+selected-most es p = tally-most (suc (length es)) (λ w. view es .there w && reaches p (view es) 0 w)
 
-checks : (e : Read (List Announced)) → Checks (checked e)
-unfolding checked
-checks (got steps n) = record { number = omega arith; alone = λ h. absurd (omega (arith, h)) }
-checks (refused r) = record { number = in-table (r .reason) .0; alone = λ h s A B. ap (λ r. r A B) (none-shown stepLimit s) }
+listing-fits : (g : Graph) → LegalGraph g → (es : List Element) → Accepted elementLimit g es → (p : XPath) → length (listing (view es) (selected (view es) p)) ≤ listingRoom (suc (length es))
+unfolding view isElement
+listing-fits g legal es accepted p =
+    let keeps = accepted-keeps elementLimit g es accepted in
+    let kinds : (w : ℕ) → isElement (view es) w ≡ true → view es .kind w < types = λ w e. omega (arith, edge-types g legal _ _ (keeps .edge w e) .1, legal .most-types) in
+    listing-most (view es) (omega (arith, accepted .most-elements)) (kinds-small es kinds) (accepted .texts) (selected (view es) p) (selected-lists es p .below) (selected-most es p)
 
-pub demand-1 : Demand1
-unfolding readGraph readDocument readTables readQuery readProgram shredded rebuilt translation checkOf runOf selectOf listOf
-demand-1 =
-    record {
-      read-graph = λ gra. reads _;
-      read-document = λ gra tre. reads _;
-      read-tables = λ gra edg. reads _;
-      read-query = λ gra qry. reads _;
-      read-program = λ gra rel. reads _;
-      shred = λ gra tre out. writes _ out;
-      rebuild = λ gra edg out. writes _ out;
-      translate = λ gra qry out. writes _ out;
-      check = λ gra rel. checks _;
-      run = λ gra edg rel out work. runs _ out work;
-      select = λ gra edg qry out work. asks chosen chooses (asked gra edg qry) out work;
-      list = λ gra edg qry text work. asks told tells (asked gra edg qry) text work;
-    }
+module _ {gra : List ℕ} (bytes : Bytes gra) where
+  -- a reader alone
+  reads : {X : Type 0} {File : Graph → X → Type 0} {read : Graph → Read X} → ReadsAs gra File read → (count : Graph × X → ℕ)
+      → Answers (Under gra File) count (answerOf (mapped count (under gra read)))
+  reads {read = read} r count =
+      answers (record { there = λ x (f, d). (x, under-came r f d, tt, refl); back = λ {u} (n, h) fits. (u, under-back r bytes h) }) (read-judged count (under gra read))
+
+  graph-answers : {a : Answer} → tb-read-graph gra a → Answers (λ g. GraphFile g gra) (λ g. g .k) a
+  unfolding readGraph
+  graph-answers {a} c =
+      rw (read-graph-is gra .only a c) (answers (record { there = λ g f. (g, (length gra, graph-got f), tt, refl); back = λ {u} (n, h) fits. (u, graph-file bytes h) })
+      (read-judged (λ g. g .k) (graphFile gra 0)))
+
+  document-answers : {tre : List ℕ} {a : Answer} → Bytes tre → tb-read-document gra tre a → Answers (Under gra λ g es. DocumentFile g es tre) (λ x. length (x .1)) a
+  unfolding readDocument
+  document-answers {tre} {a} more c = rw (read-document-is gra tre .only a c) (reads (document-reads more) (λ x. length (x .1)))
+
+  tables-answers : {edg : List ℕ} {a : Answer} → Bytes edg → tb-read-tables gra edg a → Answers (Under gra λ g es. TablesFile g es edg) (λ x. length (x .1)) a
+  unfolding readTables
+  tables-answers {edg} {a} more c = rw (read-tables-is gra edg .only a c) (reads (tables-reads more) (λ x. length (x .1)))
+
+  program-answers : {rel : List ℕ} {a : Answer} → Bytes rel → tb-read-program gra rel a → Answers (Under gra λ g os. ProgramFile g os rel) (λ x. length (x .1)) a
+  unfolding readProgram
+  program-answers {rel} {a} more c = rw (read-program-is gra rel .only a c) (reads (program-reads more) (λ x. length (x .1)))
+
+  -- the nodes that a query has are those that it leaves of the allowed ones
+  query-answers : {qry : List ℕ} {a : Answer} → Bytes qry → tb-read-query gra qry a → Answers (Under gra λ g p. QueryFile g p qry) (λ x. queryNodes (x .1)) a
+  unfolding readQuery
+  query-answers {qry} {a} more c =
+      rw (read-query-is gra qry .only a c) (answers
+      (record {
+        there = λ x (f, d). ((x .0, (x .1, queryLimit - queryNodes (x .1))), under-came (query-reads more) f (d, refl), tt, omega (arith, d .few-nodes));
+        back = λ {u} (n, h) fits. let (f, d) = under-back (query-reads more) bytes h in ((u .0, u .1 .0), (f, d .0));
+      })
+      (read-judged (λ x. queryLimit - x .1 .1) (queryUnder gra qry)))
+
+  -- a call that writes a file of what it read
+  module _ {X : Type 0} {File : Graph → X → Type 0} {read : Graph → Read X} (r : ReadsAs gra File read) (write : Graph × X → List ℕ) (out : List ℕ) where
+    writes : Writes (Under gra λ g x. File g x × (length (write (g, x)) ≤ length out)) (λ x. length (write x)) out (lent (mapped write (under gra read)) out)
+    writes =
+        let judged = lent-judged (mapped write (under gra read)) out in
+        record {
+          answers = answers
+              (record {
+                there = λ x (f, (d, room)). let (n, h) = under-came r f d in (write x, (n, mapped-got write h), room, refl);
+                back = λ {u} (n, h) fits. let (x, p, same) = mapped-out write (under gra read) h in let (f, d) = under-back r bytes p in (x, (f, (d, rw same fits)));
+              })
+              judged;
+          kept = kept judged;
+          rest = lent-rest (mapped write (under gra read)) out;
+        }
+
+  shred-writes : {tre out : List ℕ} {l : Lent} → Bytes tre → tb-shred gra tre out l
+      → Writes (Under gra λ g es. DocumentFile g es tre × (length (tablesBytes g es) ≤ length out)) (λ x. length (tablesBytes (x .0) (x .1))) out l
+  unfolding shredded
+  shred-writes {tre} {out} {l} more c = rw (shred-is gra tre out .only l c) (writes (document-reads more) (λ x. tablesBytes (x .0) (x .1)) out)
+
+  rebuild-writes : {edg out : List ℕ} {l : Lent} → Bytes edg → tb-rebuild gra edg out l
+      → Writes (Under gra λ g es. TablesFile g es edg × (length (documentBytes es) ≤ length out)) (λ x. length (documentBytes (x .1))) out l
+  unfolding rebuilt
+  rebuild-writes {edg} {out} {l} more c = rw (rebuild-is gra edg out .only l c) (writes (tables-reads more) (λ x. documentBytes (x .1)) out)
+
+  translate-writes : {qry out : List ℕ} {l : Lent} → Bytes qry → tb-translate gra qry out l
+      → Writes (Under gra λ g p. QueryFile g p qry × (stepCount p ≤ stepLimit) × (length (programBytes (translated g p)) ≤ length out))
+      (λ x. length (programBytes (translated (x .0) (x .1)))) out l
+  unfolding translation
+  translate-writes {qry} {out} {l} more c =
+      let e = bind (queryUnder gra qry) λ x at. mapped programBytes (programOf (x .0) (x .1 .0) at) in
+      let judged = lent-judged e out in
+      rw (translate-is gra qry out .only l c) record {
+        answers = answers
+            (record {
+              there = λ x (f, (d, few, room)).
+                  let (n, h) = under-came (query-reads more) f (d, refl) in
+                  (programBytes (translated (x .0) (x .1)), (n, rw h (mapped-got programBytes (program-came (x .0) (x .1) n few))), room, refl);
+              back = λ {u} (n, h) fits.
+                  let (x, m, p, q) = bind-out (queryUnder gra qry) _ h in
+                  let (os, made, same) = mapped-out programBytes (programOf (x .0) (x .1 .0) m) q in
+                  let (few, is) = program-back (x .0) (x .1 .0) m made in
+                  let (f, d) = under-back (query-reads more) bytes p in
+                  ((x .0, x .1 .0), (f, (d .0, few, rw (is, same) fits)));
+            })
+            judged;
+        kept = kept judged;
+        rest = lent-rest e out;
+      }
+
+  check-checks : {rel : List ℕ} {c : Checked} → Bytes rel → tb-check gra rel c → Checks (Under gra λ g os. ProgramFile g os rel) c
+  unfolding checkOf
+  check-checks {rel} {c} more h =
+      rw (check-is gra rel .only c h) (check-judged (Under gra λ g os. ProgramFile g os rel) (programUnder gra rel) (λ x. announcement (x .0) (x .1))
+      (λ x (f, d). under-came (program-reads more) f d) (λ x (n, e). under-back (program-reads more) bytes e))
+
+  run-runs : {edg rel out work : List ℕ} {r : Ran} → Bytes edg → Bytes rel → tb-run gra edg rel out work r
+      → Runs (Under gra λ g (x : List Element × List Operation). TablesFile g (x .0) edg × ProgramFile g (x .1) rel × Room (x .0) (length (x .1)) out work)
+      (λ x. length (answer (view (x .1 .0)) (x .1 .1))) out work r
+  unfolding runOf view
+  run-runs {edg} {rel} {out} {work} {r} tables program c =
+      let reading = then-reads (tables-reads tables) (program-reads program) in
+      let e = mapped toRun (tablesThenProgram gra edg rel) in
+      let judged = run-judged (λ u. u .0 .size) (λ u. answer (u .0) (u .1)) (λ u. u .0) (λ u. u .1) out work e in
+      rw (run-is gra edg rel out work .only r c, ran-left e out work) record {
+        answers = answers
+            (record {
+              there = λ x (f, (t, p, room)).
+                  let (n, h) = under-came reading f (t, p) in
+                  (toRun (x .0, (x .1 .0, x .1 .1)), (n, mapped-got toRun h), (omega (arith, room .for-nodes), room .for-steps), refl);
+              back = λ {u} (n, h) fits.
+                  let (x, p, same) = mapped-out toRun (tablesThenProgram gra edg rel) h in
+                  let (f, (t, q)) = under-back reading bytes p in
+                  (x, (f, (t, q, record { for-nodes = omega (arith, fits .0, ap (λ u. u .0 .size) same); for-steps = rw (ap (λ u. u .1) same) (fits .1) })));
+            })
+            judged;
+        kept = kept judged;
+        rest = run-rest (λ u. u .0 .size) (λ u. answer (u .0) (u .1)) (λ u. u .0) (λ u. u .1) out work e (λ u c. few-nodes (u .0) (u .1));
+      }
+
+  -- what a query asks for is read where its files are there and its steps are few
+  module _ {edg qry : List ℕ} (tables : Bytes edg) (query : Bytes qry) where
+    reading : ReadsAs gra (λ g (x : List Element × (XPath × ℕ)). TablesFile g (x .0) edg × QueryLeft qry g (x .1)) (λ g. then (tablesFile elementLimit g edg 0) (queryFile (g .k) qry 0))
+    reading = then-reads (tables-reads tables) (query-reads query)
+
+    asked-came : {g : Graph} {es : List Element} {p : XPath} → GraphFile g gra → TablesFile g es edg → QueryFile g p qry → stepCount p ≤ stepLimit → Came (asked gra edg qry) (asks g es p)
+    asked-came f t q few = (length qry, few-asked f t q few)
+
+    asked-back : {a : Asked} {n : ℕ} → asked gra edg qry ≡ got a n
+        → (g : Graph) × (es : List Element) × (p : XPath) × GraphFile g gra × TablesFile g es edg × QueryFile g p qry × (stepCount p ≤ stepLimit) × (asks g es p ≡ a)
+    unfolding asked
+    asked-back h =
+        let (x, m, r, rest) = bind-out (tablesThenQuery gra edg qry) asking h in
+        let (os, made, same) = mapped-out _ (programOf (x .0) (x .1 .1 .0) m) rest in
+        let (few, is) = program-back (x .0) (x .1 .1 .0) m made in
+        let (f, (t, q)) = under-back reading bytes r in
+        (x .0, x .1 .0, x .1 .1 .0, f, t, q .0, few, rw is same)
+
+    -- a call that leaves in its first buffer something of the view and the path, where there is room
+    asks-runs : (room : ℕ → ℕ) (leave : View → XPath → List ℕ) (Roomed : List Element → ℕ → Type 0) {out work : List ℕ}
+        → ((es : List Element) (steps : ℕ) → Roomed es steps → (room (suc (length es)) ≤ length out) × (roomBytes (small .row) * steps ≤ length work))
+        → ((es : List Element) (steps : ℕ) → room (suc (length es)) ≤ length out → roomBytes (small .row) * steps ≤ length work → Roomed es steps)
+        → ((g : Graph) (es : List Element) (p : XPath) → LegalGraph g → Accepted elementLimit g es → length (leave (view es) p) ≤ room (suc (length es)))
+        → Runs (Under gra λ g (x : List Element × XPath). TablesFile g (x .0) edg × QueryFile g (x .1) qry × (stepCount (x .1) ≤ stepLimit) × Roomed (x .0) (stepCount (x .1)))
+        (λ x. length (leave (view (x .1 .0)) (x .1 .1))) out work
+        (left (λ a. room (a .view .size)) (λ a. leave (a .view) (a .path)) (λ a. a .view) (λ a. a .program) out work (asked gra edg qry))
+    unfolding view
+    asks-runs room leave Roomed {out} {work} fits roomed most =
+        let judged = run-judged (λ a. room (a .view .size)) (λ a. leave (a .view) (a .path)) (λ a. a .view) (λ a. a .program) out work (asked gra edg qry) in
+        record {
+          answers = answers
+              (record {
+                there = λ x (f, (t, q, few, given)).
+                    let (a, b) = fits (x .1 .0) (stepCount (x .1 .1)) given in
+                    (asks (x .0) (x .1 .0) (x .1 .1), asked-came f t q few, (a, rw (step-count-written (x .0) (x .1 .1)) b), refl);
+                back = λ {u} (n, h) given.
+                    let (g, es, p, f, t, q, few, same) = asked-back h in
+                    let for-steps : roomBytes (small .row) * stepCount p ≤ length work = rw (← step-count-written g p, ap (λ a. a .program) same) (given .1) in
+                    ((g, (es, p)), (f, (t, q, few, roomed es (stepCount p) (rw (ap (λ a. a .view .size) same) (given .0)) for-steps)));
+              })
+              judged;
+          kept = kept judged;
+          rest = run-rest (λ a. room (a .view .size)) (λ a. leave (a .view) (a .path)) (λ a. a .view) (λ a. a .program) out work (asked gra edg qry) λ a (n, h).
+              let (g, es, p, f, t, q, few, same) = asked-back h in
+              subst (λ a. length (leave (a .view) (a .path)) ≤ room (a .view .size)) same (most g es p (f .legal) (t .legal));
+        }
+
+    select-runs : {out work : List ℕ} {r : Ran} → tb-select gra edg qry out work r
+        → Runs (Under gra λ g (x : List Element × XPath). TablesFile g (x .0) edg × QueryFile g (x .1) qry × (stepCount (x .1) ≤ stepLimit) × Room (x .0) (stepCount (x .1)) out work)
+        (λ x. length (selected (view (x .1 .0)) (x .1 .1))) out work r
+    unfolding selectOf
+    select-runs {out} {work} {r} c =
+        rw (select-is gra edg qry out work .only r c, chosen-left (asked gra edg qry) out work)
+        (asks-runs (λ n. n) selected (λ es steps. Room es steps out work) (λ es steps room. (omega (arith, room .for-nodes), room .for-steps))
+        (λ es steps a b. record { for-nodes = omega (arith, a); for-steps = b }) (λ g es p legal accepted. selected-most es p))
+
+    list-runs : {text work : List ℕ} {r : Ran} → tb-list gra edg qry text work r
+        → Runs (Under gra λ g (x : List Element × XPath). TablesFile g (x .0) edg × QueryFile g (x .1) qry × (stepCount (x .1) ≤ stepLimit) × TextRoom (x .0) (stepCount (x .1)) text work)
+        (λ x. length (listing (view (x .1 .0)) (selected (view (x .1 .0)) (x .1 .1)))) text work r
+    unfolding listOf
+    list-runs {text} {work} {r} c =
+        rw (list-is gra edg qry text work .only r c, told-left (asked gra edg qry) text work)
+        (asks-runs listingRoom (λ d p. listing d (selected d p)) (λ es steps. TextRoom es steps text work) (λ es steps room. (omega (arith, room .for-text), room .for-steps))
+        (λ es steps a b. record { for-text = omega (arith, a); for-steps = b }) (λ g es p legal accepted. listing-fits g legal es accepted p))
+
+  pub demand-1 : Demand1 gra bytes
+  demand-1 = record {
+    read-graph = graph-answers;
+    read-document = document-answers;
+    read-tables = tables-answers;
+    read-query = query-answers;
+    read-program = program-answers;
+    shred = shred-writes;
+    rebuild = rebuild-writes;
+    translate = translate-writes;
+    check = check-checks;
+    run = run-runs;
+    select = λ tables query c. select-runs tables query c;
+    list = λ tables query c. list-runs tables query c;
+  }

@@ -1,77 +1,166 @@
--- The three demands, over the contracts of the calls.
+-- The three demands, over what the public calls may answer and leave by the contracts that their code carries. A call is
+-- written as what it is handed and how it ends: `tb-run gra edg rel out work r` says that tb_run, handed these files and lent
+-- these buffers, may end as r, its answer beside the bytes of both buffers afterwards.
+--
+-- Words from below, each a short definition there, are the rules of docs/RULES.md: what is legal (`LegalGraph`, `Accepted`,
+-- `LegalPath`, `LegalProgram`), how it is written as bytes (`graphBytes` and its like), what a query reaches (`reaches`), which
+-- rows a program's steps have (`run`) and which pairs of kinds are announced for them (`announced`), what it is translated to
+-- (`translated`, of `stepCount` steps), what a listing says (`listing`), and where a row stands in the work area (`joined`).
 use Prim.Native.Nat.{ℕ, _+_, _*_, _≤_, _<_}
 use mathlib.Core.Path.{_≡_}
 use mathlib.Core.Bool.{true, false}
 use mathlib.Core.List.{List, []}
-use lib.Dec.{leb}
-use lib.ListN.{length, getD}
+use lib.ListN.{length, getD, take}
 use Rattle.meaning.specs.declared.Answer.{Answer}
 use Rattle.meaning.specs.declared.Element.{Element}
 use Rattle.meaning.specs.declared.Graph.{Graph}
 use Rattle.meaning.specs.declared.Operation.{Operation}
-use Rattle.meaning.specs.declared.Reason.the-variants.{Steps}
-use Rattle.meaning.specs.Limits.{small, document, elementLimit, stepLimit, rowBits}
+use Rattle.meaning.specs.Limits.{small, document, elementLimit, queryLimit, stepLimit, rowBits, roomBytes}
 use Rattle.meaning.specs.Relations.{Relation, at}
-use Rattle.meaning.specs.Documents.{View, view, node}
-use Rattle.meaning.specs.Queries.{XPath, reaches}
-use Rattle.meaning.specs.Operations.{LegalProgram, last, run}
+use Rattle.meaning.specs.Graphs.{LegalGraph}
+use Rattle.meaning.specs.Documents.{View, view, node, Accepted}
+use Rattle.meaning.specs.Queries.{XPath, LegalPath, queryNodes, reaches, selected}
+use Rattle.meaning.specs.Operations.{LegalProgram, last, run, answer}
+use Rattle.meaning.specs.Announcements.{announced}
 use Rattle.meaning.specs.Translation.{translated, stepCount}
-use Rattle.fields.specs.Read.{got, pick}
 use Rattle.fields.specs.Write.{Bytes}
-use Rattle.graph.specs.Gra.{graphFile}
-use Rattle.tre.specs.Tre.{documentFile}
-use Rattle.edg.specs.Edg.{tablesFile}
-use Rattle.query.specs.Qry.{queryFile}
-use Rattle.rel.specs.Rel.{programFile}
-use Rattle.writing.specs.Lent.{Lent, accepted, turnedAway, fileIn}
-use Rattle.convert.specs.Convert.{shredded, rebuilt}
-use Rattle.convert.specs.RoundTrips.{DocumentReturns, TablesReturn}
-use Rattle.shredder.specs.Shred.{tablesLength}
-use Rattle.rebuilder.specs.Rebuild.{documentLength}
+use Rattle.graph.specs.Gra.{graphBytes}
+use Rattle.tre.specs.Tre.{documentBytes}
+use Rattle.edg.specs.Edg.{tablesBytes}
+use Rattle.query.specs.Qry.{queryBytes}
+use Rattle.rel.specs.Rel.{programBytes}
+use Rattle.writing.specs.Lent.{Lent}
 use Rattle.announce.specs.declared.Checked.{Checked}
 use Rattle.masks.specs.Pairs.{relOf}
-use Rattle.announce.specs.Check.{checkOf}
 use Rattle.rooms.specs.Layout.{joined}
 use Rattle.rooms.specs.Run.{Ran}
-use Rattle.runner.specs.Run.{runOf}
-use Rattle.runner.specs.Promises.{Roomy, nodesIn, Alike}
-use Rattle.translator.specs.Translate.{translation}
-use Rattle.trammelbud.specs.Calls.{readGraph, readDocument, readTables, readQuery, readProgram, selectOf, listOf}
+use Rattle.text.specs.Listing.{listing}
+use Rattle.trammelbud.proofs.Outcomes.{tb-read-graph, tb-read-document, tb-read-tables, tb-read-query, tb-read-program, tb-shred, tb-rebuild, tb-translate, tb-check, tb-run, tb-select, tb-list}
 
--- 1. Every call answers 0, or one number of the table and 0; refused, it leaves what it was lent as it came.
-pub record Answers (a : Answer) : Type 0 where
+-- Each call has exactly one end, whatever it is handed: its answer, and every byte of every lent buffer.
+pub record ExactlyOne {A : Type 0} (Ends : A → Type 0) : Type 0 where
+  pub end : A
+  pub there : Ends end
+  pub only : (a : A) → Ends a → a ≡ end
+
+pub record Determined : Type 0 where
+  pub read-graph : (gra : List ℕ) → ExactlyOne (tb-read-graph gra)
+  pub read-document : (gra tre : List ℕ) → ExactlyOne (tb-read-document gra tre)
+  pub read-tables : (gra edg : List ℕ) → ExactlyOne (tb-read-tables gra edg)
+  pub read-query : (gra qry : List ℕ) → ExactlyOne (tb-read-query gra qry)
+  pub read-program : (gra rel : List ℕ) → ExactlyOne (tb-read-program gra rel)
+  pub shred : (gra tre out : List ℕ) → ExactlyOne (tb-shred gra tre out)
+  pub rebuild : (gra edg out : List ℕ) → ExactlyOne (tb-rebuild gra edg out)
+  pub translate : (gra qry out : List ℕ) → ExactlyOne (tb-translate gra qry out)
+  pub check : (gra rel : List ℕ) → ExactlyOne (tb-check gra rel)
+  pub run : (gra edg rel out work : List ℕ) → ExactlyOne (tb-run gra edg rel out work)
+  pub select : (gra edg qry out work : List ℕ) → ExactlyOne (tb-select gra edg qry out work)
+  pub list : (gra edg qry text work : List ℕ) → ExactlyOne (tb-list gra edg qry text work)
+
+-- Files: a file is the encoding of something legal, a graph,
+pub record GraphFile (g : Graph) (gra : List ℕ) : Type 0 where
+  pub legal : LegalGraph g
+  pub is : gra ≡ graphBytes g
+
+-- or under a graph a document, as tokens and as tables, a query or a program
+pub record DocumentFile (g : Graph) (es : List Element) (tre : List ℕ) : Type 0 where
+  pub legal : Accepted elementLimit g es
+  pub is : tre ≡ documentBytes es
+
+pub record TablesFile (g : Graph) (es : List Element) (edg : List ℕ) : Type 0 where
+  pub legal : Accepted elementLimit g es
+  pub is : edg ≡ tablesBytes g es
+
+pub record QueryFile (g : Graph) (p : XPath) (qry : List ℕ) : Type 0 where
+  pub legal : LegalPath (g .k) p
+  pub few-nodes : queryNodes p ≤ queryLimit
+  pub is : qry ≡ queryBytes p
+
+pub record ProgramFile (g : Graph) (os : List Operation) (rel : List ℕ) : Type 0 where
+  pub legal : LegalProgram stepLimit (g .k) os
+  pub is : rel ≡ programBytes os
+
+-- a graph's file, and what is taken under that graph
+abbrev pub Under : {X : Type 0} → List ℕ → (Graph → X → Type 0) → Graph × X → Type 0
+Under gra Takes (g, x) = GraphFile g gra × Takes g x
+
+-- n+1 bytes for the nodes that are named, 2,048 bytes of work area for each step
+pub record Room (es : List Element) (steps : ℕ) (out work : List ℕ) : Type 0 where
+  pub for-nodes : length es + 1 ≤ length out
+  pub for-steps : roomBytes (small .row) * steps ≤ length work
+
+-- 13(n+2) bytes for the text, and as much work area
+pub record TextRoom (es : List Element) (steps : ℕ) (text work : List ℕ) : Type 0 where
+  pub for-text : 13 * (length es + 2) ≤ length text
+  pub for-steps : roomBytes (small .row) * steps ≤ length work
+
+-- 1. Every call comes back: with 0 and a count exactly where its files encode something legal and it has its room, which is
+-- what it takes; otherwise with one number of the table and nothing else, and what it was lent is as it came.
+pub record Answers {X : Type 0} (Takes : X → Type 0) (count : X → ℕ) (a : Answer) : Type 0 where
+  pub accepts : (x : X) → Takes x → a ≡ record { number = 0; count = count x }
+  pub only : a .number ≡ 0 → (x : X) × Takes x
   pub number : a .number ≤ 12
   pub alone : 0 < a .number → a .count ≡ 0
 
-pub record Writes (out : List ℕ) (l : Lent) : Type 0 where
-  pub answers : Answers (l .answer)
-  pub kept : 0 < l .answer .number → l .bytes ≡ out
+-- past what a call wrote, a buffer is as it came
+pub record Rest (old : List ℕ) (a : Answer) (new : List ℕ) : Type 0 where
+  pub as-long : length new ≡ length old
+  pub stays : (i : ℕ) → a .count ≤ i → getD new i 0 ≡ getD old i 0
 
-pub record Runs (out work : List ℕ) (r : Ran) : Type 0 where
-  pub answers : Answers (r .answer)
+pub record Writes {X : Type 0} (Takes : X → Type 0) (count : X → ℕ) (out : List ℕ) (l : Lent) : Type 0 where
+  pub answers : Answers Takes count (l .answer)
+  pub kept : 0 < l .answer .number → l .bytes ≡ out
+  pub rest : Rest out (l .answer) (l .bytes)
+
+pub record Runs {X : Type 0} (Takes : X → Type 0) (count : X → ℕ) (out work : List ℕ) (r : Ran) : Type 0 where
+  pub answers : Answers Takes count (r .answer)
   pub kept : 0 < r .answer .number → (r .out ≡ out) × (r .work ≡ work)
+  pub rest : Rest out (r .answer) (r .out)
 
 -- (A, B) is announced for step s
 abbrev pub announcedBy : Checked → ℕ → Relation
 announcedBy c s = relOf (getD (c .steps) s (record { pairs = [] }))
 
-pub record Checks (c : Checked) : Type 0 where
+pub record Checks {X : Type 0} (Takes : X → Type 0) (c : Checked) : Type 0 where
+  pub accepts : (x : X) → Takes x → c .number ≡ 0
+  pub only : c .number ≡ 0 → (x : X) × Takes x
   pub number : c .number ≤ 12
   pub alone : 0 < c .number → (s A B : ℕ) → announcedBy c s A B ≡ false
 
-pub record Demand1 : Type 0 where
-  pub read-graph : (gra : List ℕ) → Answers (readGraph gra)
-  pub read-document : (gra tre : List ℕ) → Answers (readDocument gra tre)
-  pub read-tables : (gra edg : List ℕ) → Answers (readTables gra edg)
-  pub read-query : (gra qry : List ℕ) → Answers (readQuery gra qry)
-  pub read-program : (gra rel : List ℕ) → Answers (readProgram gra rel)
-  pub shred : (gra tre out : List ℕ) → Writes out (shredded gra tre out)
-  pub rebuild : (gra edg out : List ℕ) → Writes out (rebuilt gra edg out)
-  pub translate : (gra qry out : List ℕ) → Writes out (translation gra qry out)
-  pub check : (gra rel : List ℕ) → Checks (checkOf gra rel)
-  pub run : (gra edg rel out work : List ℕ) → Runs out work (runOf gra edg rel out work)
-  pub select : (gra edg qry out work : List ℕ) → Runs out work (selectOf gra edg qry out work)
-  pub list : (gra edg qry text work : List ℕ) → Runs text work (listOf gra edg qry text work)
+pub record Demand1 (gra : List ℕ) (bytes : Bytes gra) : Type 0 where
+  -- a reader counts types, elements, elements, query nodes, steps
+  pub read-graph : {a : Answer} → tb-read-graph gra a → Answers (λ g. GraphFile g gra) (λ g. g .k) a
+  pub read-document : {tre : List ℕ} {a : Answer} → Bytes tre → tb-read-document gra tre a
+      → Answers (Under gra λ g es. DocumentFile g es tre) (λ x. length (x .1)) a
+  pub read-tables : {edg : List ℕ} {a : Answer} → Bytes edg → tb-read-tables gra edg a
+      → Answers (Under gra λ g es. TablesFile g es edg) (λ x. length (x .1)) a
+  pub read-query : {qry : List ℕ} {a : Answer} → Bytes qry → tb-read-query gra qry a
+      → Answers (Under gra λ g p. QueryFile g p qry) (λ x. queryNodes (x .1)) a
+  pub read-program : {rel : List ℕ} {a : Answer} → Bytes rel → tb-read-program gra rel a
+      → Answers (Under gra λ g os. ProgramFile g os rel) (λ x. length (x .1)) a
+  -- a call that writes a file asks for its length and answers it
+  pub shred : {tre out : List ℕ} {l : Lent} → Bytes tre → tb-shred gra tre out l
+      → Writes (Under gra λ g es. DocumentFile g es tre × (length (tablesBytes g es) ≤ length out)) (λ x. length (tablesBytes (x .0) (x .1))) out l
+  pub rebuild : {edg out : List ℕ} {l : Lent} → Bytes edg → tb-rebuild gra edg out l
+      → Writes (Under gra λ g es. TablesFile g es edg × (length (documentBytes es) ≤ length out)) (λ x. length (documentBytes (x .1))) out l
+  pub translate : {qry out : List ℕ} {l : Lent} → Bytes qry → tb-translate gra qry out l
+      → Writes (Under gra λ g p. QueryFile g p qry × (stepCount p ≤ stepLimit) × (length (programBytes (translated g p)) ≤ length out))
+      (λ x. length (programBytes (translated (x .0) (x .1)))) out l
+  pub check : {rel : List ℕ} {c : Checked} → Bytes rel → tb-check gra rel c → Checks (Under gra λ g os. ProgramFile g os rel) c
+  -- a run counts the nodes that it names, a listing its bytes
+  pub run : {edg rel out work : List ℕ} {r : Ran} → Bytes edg → Bytes rel → tb-run gra edg rel out work r
+      → Runs (Under gra λ g (x : List Element × List Operation). TablesFile g (x .0) edg × ProgramFile g (x .1) rel × Room (x .0) (length (x .1)) out work)
+      (λ x. length (answer (view (x .1 .0)) (x .1 .1))) out work r
+  pub select : {edg qry out work : List ℕ} {r : Ran} → Bytes edg → Bytes qry → tb-select gra edg qry out work r
+      → Runs (Under gra λ g (x : List Element × XPath). TablesFile g (x .0) edg × QueryFile g (x .1) qry × (stepCount (x .1) ≤ stepLimit) × Room (x .0) (stepCount (x .1)) out work)
+      (λ x. length (selected (view (x .1 .0)) (x .1 .1))) out work r
+  pub list : {edg qry text work : List ℕ} {r : Ran} → Bytes edg → Bytes qry → tb-list gra edg qry text work r
+      → Runs (Under gra λ g (x : List Element × XPath). TablesFile g (x .0) edg × QueryFile g (x .1) qry × (stepCount (x .1) ≤ stepLimit) × TextRoom (x .0) (stepCount (x .1)) text work)
+      (λ x. length (listing (view (x .1 .0)) (selected (view (x .1 .0)) (x .1 .1)))) text work r
+
+-- what a call wrote: as many bytes as it answers
+abbrev pub written : Answer → List ℕ → List ℕ
+written a bytes = take (a .count) bytes
 
 -- w stands at some place of the list
 pub record Among (ws : List ℕ) (w : ℕ) : Type 0 where
@@ -80,83 +169,78 @@ pub record Among (ws : List ℕ) (w : ℕ) : Type 0 where
   pub there : getD ws place 0 ≡ w
 
 -- the call accepts and names exactly the nodes that the path selects from the document node, each once, ascending
-pub record Names (d : View) (p : XPath) (r : Ran) : Type 0 where
-  pub accepts : r .answer .number ≡ 0
-  pub counts : r .answer .count ≡ length (nodesIn r)
-  pub ascend : (i j : ℕ) → i < j → j < length (nodesIn r) → getD (nodesIn r) i 0 < getD (nodesIn r) j 0
-  pub sound : (w : ℕ) → Among (nodesIn r) w → (w < d .size) × (reaches p d 0 w ≡ true)
-  pub complete : (w : ℕ) → w < d .size → reaches p d 0 w ≡ true → Among (nodesIn r) w
-
--- the graph's file is accepted
-pub record OfGraph (gra : List ℕ) (g : Graph) : Type 0 where
-  pub bytes : Bytes gra
-  pub end : ℕ
-  pub accepts : graphFile gra 0 ≡ got g end
-
--- under it the document's is, the tables', the query's, the program's
-pub record OfDocument (g : Graph) (tre : List ℕ) (es : List Element) : Type 0 where
-  pub bytes : Bytes tre
-  pub end : ℕ
-  pub accepts : documentFile elementLimit g tre 0 ≡ got es end
-
-pub record OfTables (g : Graph) (edg : List ℕ) (es : List Element) : Type 0 where
-  pub bytes : Bytes edg
-  pub end : ℕ
-  pub accepts : tablesFile elementLimit g edg 0 ≡ got es end
-
-pub record OfQuery (g : Graph) (qry : List ℕ) (p : XPath) : Type 0 where
-  pub bytes : Bytes qry
-  pub left : ℕ
-  pub end : ℕ
-  pub accepts : queryFile (g .k) qry 0 ≡ got (p, left) end
-
-pub record OfProgram (g : Graph) (rel : List ℕ) (os : List Operation) : Type 0 where
-  pub bytes : Bytes rel
-  pub end : ℕ
-  pub accepts : programFile (g .k) rel 0 ≡ got os end
+pub record Names (d : View) (p : XPath) (a : Answer) (ws : List ℕ) : Type 0 where
+  pub accepts : a .number ≡ 0
+  pub counts : a .count ≡ length ws
+  pub ascend : (i j : ℕ) → i < j → j < length ws → getD ws i 0 < getD ws j 0
+  pub sound : (w : ℕ) → Among ws w → (w < d .size) × (reaches p d 0 w ≡ true)
+  pub complete : (w : ℕ) → w < d .size → reaches p d 0 w ≡ true → Among ws w
 
 -- 2. Queries mean what XPath says.
-pub record Demand2 (gra : List ℕ) (g : Graph) (graph : OfGraph gra g) : Type 0 where
+pub record Demand2 (gra : List ℕ) (g : Graph) (graph : GraphFile g gra) : Type 0 where
   -- the translated program, run over the shredded tables, names what the query selects
-  pub runs : {tre qry : List ℕ} {es : List Element} {p : XPath} (a b out work : List ℕ) → OfDocument g tre es → OfQuery g qry p
-      → tablesLength (g .k) (length es) ≤ length a → translation gra qry b .answer .number ≡ 0 → Roomy (view es) (translated g p) out work
-      → Names (view es) p (runOf gra (fileIn (shredded gra tre a)) (fileIn (translation gra qry b)) out work)
+  pub runs : {tre qry a b out work : List ℕ} {es : List Element} {p : XPath} {s t : Lent} {r : Ran} → DocumentFile g es tre → QueryFile g p qry
+      → tb-shred gra tre a s → s .answer .number ≡ 0 → tb-translate gra qry b t → t .answer .number ≡ 0
+      → tb-run gra (written (s .answer) (s .bytes)) (written (t .answer) (t .bytes)) out work r → Room es (stepCount p) out work
+      → Names (view es) p (r .answer) (written (r .answer) (r .out))
   -- the rows of every step, ours or a client's, stand in the work area
-  pub rows : {edg rel : List ℕ} {es : List Element} {os : List Operation} {out work : List ℕ} → OfTables g edg es → OfProgram g rel os
-      → Roomy (view es) os out work → (s v w : ℕ) → s < length os → v < rowBits (small .row) → w < rowBits (small .row)
-      → joined (small .row) (runOf gra edg rel out work .work) s v w ≡ at (run (view es) os) s v w
-  -- and the one call names what the query selects
-  pub selects : {edg qry : List ℕ} {es : List Element} {p : XPath} (out work : List ℕ) → OfTables g edg es → OfQuery g qry p
-      → stepCount p ≤ stepLimit → Roomy (view es) (translated g p) out work → Names (view es) p (selectOf gra edg qry out work)
-  -- given the room, the only accepted query not translated needs more than 24 steps
-  pub translates : {qry : List ℕ} {p : XPath} (b : List ℕ) → OfQuery g qry p → 6 + 3 * stepLimit ≤ length b
-      → translation gra qry b .answer ≡ pick (leb (stepCount p) stepLimit) (accepted (6 + 3 * stepCount p)) (turnedAway (record { reason = Steps }))
-  -- shredding and rebuilding give back the same bytes, either way round
-  pub documents-return : {tre : List ℕ} {es : List Element} (out back : List ℕ) → OfDocument g tre es
-      → tablesLength (g .k) (length es) ≤ length out → length tre ≤ length back → DocumentReturns gra tre g es out back
-  pub tables-return : {edg : List ℕ} {es : List Element} (out back : List ℕ) → OfTables g edg es
-      → documentLength (length es) ≤ length out → length edg ≤ length back → TablesReturn gra edg g es out back
+  pub rows : {edg rel out work : List ℕ} {es : List Element} {os : List Operation} {r : Ran} → TablesFile g es edg → ProgramFile g os rel
+      → tb-run gra edg rel out work r → r .answer .number ≡ 0 → (s v w : ℕ) → s < length os → v < rowBits (small .row) → w < rowBits (small .row)
+      → joined (small .row) (r .work) s v w ≡ at (run (view es) os) s v w
+  -- and past them it is as it came
+  pub rest : {edg rel out work : List ℕ} {es : List Element} {os : List Operation} {r : Ran} → TablesFile g es edg → ProgramFile g os rel
+      → tb-run gra edg rel out work r → (i : ℕ) → roomBytes (small .row) * length os ≤ i → getD (r .work) i 0 ≡ getD work i 0
+  -- the one call names what the query selects, and its listing lists them
+  pub selects : {edg qry out work : List ℕ} {es : List Element} {p : XPath} {r : Ran} → TablesFile g es edg → QueryFile g p qry
+      → tb-select gra edg qry out work r → r .answer .number ≡ 0 → Names (view es) p (r .answer) (written (r .answer) (r .out))
+  pub lists : {edg qry text work : List ℕ} {es : List Element} {p : XPath} {r : Ran} → TablesFile g es edg → QueryFile g p qry
+      → tb-list gra edg qry text work r → r .answer .number ≡ 0 → written (r .answer) (r .out) ≡ listing (view es) (selected (view es) p)
+  -- a query of at most 24 steps is translated, to the program that is fixed for it, where there is room for the file and no more;
+  -- one of more is turned away with 11, whatever the room
+  pub translates : {qry b : List ℕ} {p : XPath} {t : Lent} → QueryFile g p qry → tb-translate gra qry b t → stepCount p ≤ stepLimit → 6 + 3 * stepCount p ≤ length b
+      → (t .answer ≡ record { number = 0; count = 6 + 3 * stepCount p }) × ProgramFile g (translated g p) (written (t .answer) (t .bytes))
+  pub too-long : {qry b : List ℕ} {p : XPath} {t : Lent} → QueryFile g p qry → tb-translate gra qry b t → stepLimit < stepCount p
+      → t .answer ≡ record { number = 11; count = 0 }
+  -- shredding and rebuilding hold the same elements and give back the same bytes, either way round
+  pub documents-return : {tre out back : List ℕ} {es : List Element} {s b : Lent} → DocumentFile g es tre
+      → tb-shred gra tre out s → s .answer .number ≡ 0 → tb-rebuild gra (written (s .answer) (s .bytes)) back b → length tre ≤ length back
+      → TablesFile g es (written (s .answer) (s .bytes)) × (b .answer ≡ record { number = 0; count = length tre }) × (written (b .answer) (b .bytes) ≡ tre)
+  pub tables-return : {edg out back : List ℕ} {es : List Element} {b s : Lent} → TablesFile g es edg
+      → tb-rebuild gra edg out b → b .answer .number ≡ 0 → tb-shred gra (written (b .answer) (b .bytes)) back s → length edg ≤ length back
+      → DocumentFile g es (written (b .answer) (b .bytes)) × (s .answer ≡ record { number = 0; count = length edg }) × (written (s .answer) (s .bytes) ≡ edg)
+  -- a file's length
+  pub document-length : {tre : List ℕ} {es : List Element} → DocumentFile g es tre → length tre ≡ 5 + 5 * length es
+  pub tables-length : {edg : List ℕ} {es : List Element} → TablesFile g es edg → length edg ≡ 6 + g .k + 4 * length es
+  pub program-length : {rel : List ℕ} {os : List Operation} → ProgramFile g os rel → length rel ≡ 6 + 3 * length os
+
+-- two runs of so many steps have the same answer, nodes and rooms
+pub record Alike (steps : ℕ) (r q : Ran) : Type 0 where
+  pub answers : r .answer ≡ q .answer
+  pub nodes : written (r .answer) (r .out) ≡ written (q .answer) (q .out)
+  pub rooms : take (roomBytes (small .row) * steps) (r .work) ≡ take (roomBytes (small .row) * steps) (q .work)
 
 -- 3. A checked program runs to its end, reads no result not yet made, and every row joins an announced pair.
-pub record Demand3 (gra : List ℕ) (g : Graph) (graph : OfGraph gra g) : Type 0 where
-  -- the check passes a program exactly when its file is accepted, and then each operand is below its own step
-  pub passes : {rel : List ℕ} {os : List Operation} → OfProgram g rel os → (checkOf gra rel .number ≡ 0) × LegalProgram stepLimit (g .k) os
-  pub accepts : {rel : List ℕ} → Bytes rel → checkOf gra rel .number ≡ 0 → (os : List Operation) × OfProgram g rel os
+pub record Demand3 (gra : List ℕ) (g : Graph) (graph : GraphFile g gra) : Type 0 where
+  -- the check passes a program exactly when its file is accepted; then it is legal, so each operand is below its own step
+  pub passes : {rel : List ℕ} {os : List Operation} {c : Checked} → ProgramFile g os rel → tb-check gra rel c → c .number ≡ 0
+  pub accepts : {rel : List ℕ} {c : Checked} → Bytes rel → tb-check gra rel c → c .number ≡ 0 → (os : List Operation) × ProgramFile g os rel
+  -- the pairs that it answers are those announced: at every step, no pair more and none less
+  pub pairs : {rel : List ℕ} {os : List Operation} {c : Checked} → ProgramFile g os rel → tb-check gra rel c
+      → (s A B : ℕ) → announcedBy c s A B ≡ at (announced g os) s A B
   -- with the room, its run answers 0, and with the same nodes and steps whatever the buffers held
-  pub ends : {edg rel : List ℕ} {es : List Element} {os : List Operation} {out work : List ℕ} → OfTables g edg es → OfProgram g rel os
-      → Roomy (view es) os out work → runOf gra edg rel out work .answer .number ≡ 0
-  pub same : {edg rel : List ℕ} {es : List Element} {os : List Operation} {out work out′ work′ : List ℕ} → OfTables g edg es → OfProgram g rel os
-      → Roomy (view es) os out work → Roomy (view es) os out′ work′
-      → Alike (length os) (runOf gra edg rel out work) (runOf gra edg rel out′ work′)
+  pub ends : {edg rel out work : List ℕ} {es : List Element} {os : List Operation} {r : Ran} → TablesFile g es edg → ProgramFile g os rel
+      → tb-run gra edg rel out work r → Room es (length os) out work → r .answer .number ≡ 0
+  pub same : {edg rel out work out′ work′ : List ℕ} {es : List Element} {os : List Operation} {r q : Ran} → TablesFile g es edg → ProgramFile g os rel
+      → tb-run gra edg rel out work r → r .answer .number ≡ 0 → tb-run gra edg rel out′ work′ q → q .answer .number ≡ 0 → Alike (length os) r q
   -- every row of every step joins a pair that was announced for it
-  pub announces : {edg rel : List ℕ} {es : List Element} {os : List Operation} {out work : List ℕ} → OfTables g edg es → OfProgram g rel os
-      → Roomy (view es) os out work → (s v w : ℕ) → s < length os → v < rowBits (small .row) → w < rowBits (small .row)
-      → joined (small .row) (runOf gra edg rel out work .work) s v w ≡ true
-      → announcedBy (checkOf gra rel) s (node es v .kind) (node es w .kind) ≡ true
+  pub announces : {edg rel out work : List ℕ} {es : List Element} {os : List Operation} {c : Checked} {r : Ran} → TablesFile g es edg → ProgramFile g os rel
+      → tb-check gra rel c → tb-run gra edg rel out work r → r .answer .number ≡ 0
+      → (s v w : ℕ) → s < length os → v < rowBits (small .row) → w < rowBits (small .row) → joined (small .row) (r .work) s v w ≡ true
+      → announcedBy c s (node es v .kind) (node es w .kind) ≡ true
   -- nothing announced from the document node, nothing selected
-  pub nothing : {edg rel : List ℕ} {es : List Element} {os : List Operation} {out work : List ℕ} → OfTables g edg es → OfProgram g rel os
-      → Roomy (view es) os out work → ((B : ℕ) → announcedBy (checkOf gra rel) (last os) document B ≡ false)
-      → runOf gra edg rel out work .answer .count ≡ 0
+  pub nothing : {edg rel out work : List ℕ} {es : List Element} {os : List Operation} {c : Checked} {r : Ran} → TablesFile g es edg → ProgramFile g os rel
+      → tb-check gra rel c → ((B : ℕ) → announcedBy c (last os) document B ≡ false) → tb-run gra edg rel out work r → r .answer .number ≡ 0
+      → r .answer .count ≡ 0
   -- every program that we translate passes
-  pub ours : {qry : List ℕ} {p : XPath} (b : List ℕ) → OfQuery g qry p → translation gra qry b .answer .number ≡ 0
-      → checkOf gra (fileIn (translation gra qry b)) .number ≡ 0
+  pub ours : {qry b : List ℕ} {p : XPath} {t : Lent} {c : Checked} → QueryFile g p qry → tb-translate gra qry b t → t .answer .number ≡ 0
+      → tb-check gra (written (t .answer) (t .bytes)) c → c .number ≡ 0

@@ -2,3 +2,5 @@
 pub mod Counts
 pub mod Plans
 pub mod Lists
+pub mod Outcomes
+pub mod Carried

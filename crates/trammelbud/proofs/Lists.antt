@@ -33,7 +33,7 @@ use Rattle.text.proofs.LineLaws.{listing-most}
 use Rattle.trammelbud.specs.Calls.{lists}
 
 -- the kind of every number has two digits: past the elements it is the document node's
-kinds-small : (es : List Element) → ((w : ℕ) → isElement (view es) w ≡ true → view es .kind w < types) → (v : ℕ) → view es .kind v < 100
+pub kinds-small : (es : List Element) → ((w : ℕ) → isElement (view es) w ≡ true → view es .kind w < types) → (v : ℕ) → view es .kind v < 100
 unfolding view isElement node
 kinds-small es kinds zero = omega arith
 kinds-small es kinds (suc i) = go (leb (suc i) (length es)) refl

@@ -1,0 +1,198 @@
+-- A call's answer by how its reading came out: accepted exactly where something was read and there is room, otherwise one number
+-- of the table and nothing written.
+use Prim.Native.Nat.{ℕ, _*_, _≤_, _<_}
+use mathlib.Core.Path.{_≡_, refl, sym, ap, _∙_}
+use mathlib.Core.Bool.{Bool, true, false, _&&_}
+use mathlib.Core.List.{List}
+use native.Mathlib.Omega.{arith}
+use lib.Dec.{leb}
+use lib.ListN.{length, getD, take}
+use borrow.Author.Tests.{le-leb, leb-true}
+use Rattle.meaning.specs.declared.Answer.{Answer}
+use Rattle.meaning.specs.declared.Operation.{Operation}
+use Rattle.meaning.specs.declared.Reason.{Reason}
+use Rattle.meaning.specs.declared.Reason.the-variants.{Ended, Mark, Version, Bound, Code, Kind, Edge, Number, Operand, Extra, Steps, Room}
+use Rattle.meaning.specs.declared.Refusal.{Refusal}
+use Rattle.meaning.specs.Limits.{small, stepLimit, roomBytes}
+use Rattle.meaning.specs.Refused.{numberOf}
+use Rattle.meaning.specs.Documents.{View}
+use Rattle.meaning.proofs.Tests.{never}
+use Rattle.fields.specs.Read.{Read, got, refused, pick}
+use Rattle.fields.proofs.Formats.{got-same, refused-out, pick-out}
+use Rattle.writing.specs.Lent.{Lent, turnedAway, accepted, over, stored, lent}
+use Rattle.files.specs.Files.{mapped}
+use Rattle.masks.specs.declared.Announced.{Announced}
+use Rattle.masks.proofs.Announcement.{none-shown}
+use Rattle.announce.specs.Check.{checked}
+use Rattle.writing.proofs.Puts.{over-front, over-length}
+use Rattle.rooms.specs.Layout.{workByte, overwritten}
+use Rattle.rooms.proofs.Layouts.{over-past, overwritten-past}
+use Rattle.rooms.proofs.Outcomes.{leaves-all}
+use Rattle.rooms.specs.Run.{Ran, leaves, untouched}
+use Rattle.trammelbud.specs.Calls.{answerOf}
+use Rattle.demands.specs.Demands.{Answers, Rest, Checks}
+use Rattle.demands.proofs.Readings.{Came}
+
+pub in-table : (r : Reason) → (numberOf r ≤ 12) × (0 < numberOf r)
+in-table Ended = (omega arith, omega arith)
+in-table Mark = (omega arith, omega arith)
+in-table Version = (omega arith, omega arith)
+in-table Bound = (omega arith, omega arith)
+in-table Code = (omega arith, omega arith)
+in-table Kind = (omega arith, omega arith)
+in-table Edge = (omega arith, omega arith)
+in-table Number = (omega arith, omega arith)
+in-table Operand = (omega arith, omega arith)
+in-table Extra = (omega arith, omega arith)
+in-table Steps = (omega arith, omega arith)
+in-table Room = (omega arith, omega arith)
+
+-- How a call came to its answer, by its reading and by what fits its room: something was read that fits, and it answers what that
+-- counts; or not, and it answers a number of the table and keeps what it was lent.
+pub data Judged {U : Type 0} (e : Read U) (Fits : U → Type 0) (counts : U → ℕ) (Kept : Type 0) (a : Answer) : Type 0 where
+  fitted : {u : U} → Came e u → Fits u → a ≡ accepted (counts u) → Judged e Fits counts Kept a
+  short : {u : U} → Came e u → (Fits u → ⊥) → (r : Refusal) → a ≡ turnedAway r → Kept → Judged e Fits counts Kept a
+  turned : {r : Refusal} → e ≡ refused r → a ≡ turnedAway r → Kept → Judged e Fits counts Kept a
+
+pub kept : {U : Type 0} {e : Read U} {Fits : U → Type 0} {counts : U → ℕ} {Kept : Type 0} {a : Answer} → Judged e Fits counts Kept a → 0 < a .number → Kept
+kept (fitted c f is) h = absurd (omega (arith, h, ap (λ a. a .number) is))
+kept (short c f r is k) h = k
+kept (turned c is k) h = k
+
+one-came : {U : Type 0} {e : Read U} {u v : U} → Came e u → Came e v → u ≡ v
+one-came (m, p) (n, q) = got-same (sym p ∙ q) .0
+
+-- what a call takes is what its reading gives and what fits
+pub record Taken {U X : Type 0} (e : Read U) (Fits : U → Type 0) (counts : U → ℕ) (Takes : X → Type 0) (count : X → ℕ) : Type 0 where
+  pub there : (x : X) → Takes x → (u : U) × Came e u × Fits u × (counts u ≡ count x)
+  pub back : {u : U} → Came e u → Fits u → (x : X) × Takes x
+
+module _ {U X : Type 0} {e : Read U} {Fits : U → Type 0} {counts : U → ℕ} {Takes : X → Type 0} {count : X → ℕ} (taken : Taken e Fits counts Takes count) where
+  turned-answers : (r : Refusal) → ((x : X) → Takes x → ⊥) → Answers Takes count (turnedAway r)
+  turned-answers r none =
+      record { accepts = λ x t. absurd (none x t); only = λ h. absurd (omega (arith, h, in-table (r .reason) .1)); number = in-table (r .reason) .0; alone = λ h. refl }
+
+  pub answers : {Kept : Type 0} {a : Answer} → Judged e Fits counts Kept a → Answers Takes count a
+  answers (fitted {u} c f is) =
+      rw is record {
+        accepts = λ x t. let (v, d, g, same) = taken .there x t in rw (one-came c d, same);
+        only = λ h. taken .back c f;
+        number = omega arith;
+        alone = λ h. absurd (omega (arith, h));
+      }
+  answers (short {u} c f r is k) = rw is (turned-answers r λ x t. let (v, d, g, same) = taken .there x t in f (rw (one-came d c) at g))
+  answers (turned {r} p is k) = rw is (turned-answers r λ x t. let (v, d, g, same) = taken .there x t in refused-out (sym p ∙ d .1))
+
+-- a reader alone: all that it reads fits
+pub read-judged : {U : Type 0} (counts : U → ℕ) (e : Read U) → Judged e (λ u. Unit) counts Unit (answerOf (mapped counts e))
+unfolding answerOf mapped
+read-judged counts (got u n) = fitted (n, refl) tt refl
+read-judged counts (refused r) = turned refl refl tt
+
+-- a file that is to be written
+pub lent-judged : (e : Read (List ℕ)) (out : List ℕ) → Judged e (λ file. length file ≤ length out) length (lent e out .bytes ≡ out) (lent e out .answer)
+unfolding lent stored
+lent-judged (got file n) out = by-room (leb (length file) (length out)) refl
+  where
+    by-room : (b : Bool) → leb (length file) (length out) ≡ b
+        → let l = pick {A = Lent} b (record { answer = accepted (length file); bytes = over 0 file out }) (record { answer = turnedAway (record { reason = Room }); bytes = out }) in
+        Judged (got file n) (λ file. length file ≤ length out) length (l .bytes ≡ out) (l .answer)
+    by-room true e = fitted (n, refl) (leb-true (length file) (length out) e) refl
+    by-room false e = short (n, refl) (λ l. never (sym e ∙ le-leb (length file) (length out) l)) (record { reason = Room }) refl refl
+lent-judged (refused r) out = turned refl refl refl
+
+-- what is to be left in two buffers
+abbrev pub Fitting : ℕ → List Operation → List ℕ → List ℕ → Type 0
+Fitting room os out work = (room ≤ length out) × (roomBytes (small .row) * length os ≤ length work)
+
+abbrev pub Both : List ℕ → List ℕ → Ran → Type 0
+Both out work r = (r .out ≡ out) × (r .work ≡ work)
+
+module _ {U : Type 0} (room : U → ℕ) (bytes : U → List ℕ) (d : U → View) (os : U → List Operation) (out work : List ℕ) where
+  -- what a call leaves by its reading
+  abbrev pub left : Read U → Ran
+  left (got u n) = leaves (room u) (bytes u) (d u) (os u) out work
+  left (refused r) = untouched r out work
+
+  pub run-judged : (e : Read U) → Judged e (λ u. Fitting (room u) (os u) out work) (λ u. length (bytes u)) (Both out work (left e)) (left e .answer)
+  run-judged (got u n) = by-room (leb (room u) (length out)) (leb (roomBytes (small .row) * length (os u)) (length work)) refl refl
+    where
+      by-room : (a b : Bool) → leb (room u) (length out) ≡ a → leb (roomBytes (small .row) * length (os u)) (length work) ≡ b
+          → let r = pick {A = Ran} (a && b) (record { answer = accepted (length (bytes u)); out = over 0 (bytes u) out; work = overwritten (workByte (small .row) (d u) (os u)) (roomBytes (small .row) * length (os u)) work }) (untouched (record { reason = Room }) out work) in
+          Judged (got u n) (λ u. Fitting (room u) (os u) out work) (λ u. length (bytes u)) (Both out work r) (r .answer)
+      by-room true true e f = fitted (n, refl) (leb-true (room u) (length out) e, leb-true (roomBytes (small .row) * length (os u)) (length work) f) refl
+      by-room true false e f = short (n, refl) (λ l. never (sym f ∙ le-leb (roomBytes (small .row) * length (os u)) (length work) (l .1))) (record { reason = Room }) refl (refl, refl)
+      by-room false b e f = short (n, refl) (λ l. never (sym e ∙ le-leb (room u) (length out) (l .0))) (record { reason = Room }) refl (refl, refl)
+  run-judged (refused r) = turned refl refl (refl, refl)
+
+-- past what was written a buffer is as it came
+pub over-rest : (file out : List ℕ) → length file ≤ length out → Rest out (accepted (length file)) (over 0 file out)
+over-rest file out fits = record { as-long = over-length 0 file out (omega (arith, fits)); stays = over-past file out }
+
+pub lent-rest : (e : Read (List ℕ)) (out : List ℕ) → Rest out (lent e out .answer) (lent e out .bytes)
+unfolding lent stored
+lent-rest (got file n) out = by-room (leb (length file) (length out)) refl
+  where
+    by-room : (b : Bool) → leb (length file) (length out) ≡ b
+        → let l = pick {A = Lent} b (record { answer = accepted (length file); bytes = over 0 file out }) (record { answer = turnedAway (record { reason = Room }); bytes = out }) in
+        Rest out (l .answer) (l .bytes)
+    by-room true e = over-rest file out (leb-true (length file) (length out) e)
+    by-room false e = record { as-long = refl; stays = λ i l. refl }
+lent-rest (refused r) out = record { as-long = refl; stays = λ i l. refl }
+
+pub run-rest : {U : Type 0} (room : U → ℕ) (bytes : U → List ℕ) (d : U → View) (os : U → List Operation) (out work : List ℕ) (e : Read U) → ((u : U) → Came e u → length (bytes u) ≤ room u)
+    → Rest out (left room bytes d os out work e .answer) (left room bytes d os out work e .out)
+run-rest room bytes d os out work (got u n) most =
+    by-room (leb (room u) (length out)) (leb (roomBytes (small .row) * length (os u)) (length work)) refl
+  where
+    by-room : (a b : Bool) → leb (room u) (length out) ≡ a
+        → let r = pick {A = Ran} (a && b) (record { answer = accepted (length (bytes u)); out = over 0 (bytes u) out; work = overwritten (workByte (small .row) (d u) (os u)) (roomBytes (small .row) * length (os u)) work }) (untouched (record { reason = Room }) out work) in
+        Rest out (r .answer) (r .out)
+    by-room true true e = over-rest (bytes u) out (omega (arith, most u (n, refl), leb-true (room u) (length out) e))
+    by-room true false e = record { as-long = refl; stays = λ i l. refl }
+    by-room false b e = record { as-long = refl; stays = λ i l. refl }
+run-rest room bytes d os out work (refused r) most = record { as-long = refl; stays = λ i l. refl }
+
+-- a check: it answers pairs where it counts nothing
+pub check-judged : {U : Type 0} (Takes : U → Type 0) (e : Read U) (sets : U → List Announced) → ((u : U) → Takes u → Came e u) → ((u : U) → Came e u → Takes u) → Checks Takes (checked (mapped sets e))
+unfolding checked mapped
+check-judged Takes (got u n) sets there back = record { accepts = λ x t. refl; only = λ h. (u, back u (n, refl)); number = omega arith; alone = λ h. absurd (omega (arith, h)) }
+check-judged Takes (refused r) sets there back = record {
+  accepts = λ x t. refused-out (there x t .1);
+  only = λ h. absurd (omega (arith, h, in-table (r .reason) .1));
+  number = in-table (r .reason) .0;
+  alone = λ h s A B. ap (λ r. r A B) (none-shown stepLimit s);
+}
+
+-- a call that accepts had its room
+pub stored-room : (file out : List ℕ) → stored file out .answer .number ≡ 0 → length file ≤ length out
+unfolding lent stored
+stored-room file out h = by (lent-judged (got file 0) out) h
+  where
+    by : {Kept : Type 0} {a : Answer} → Judged (got file 0) (λ file. length file ≤ length out) length Kept a → a .number ≡ 0 → length file ≤ length out
+    by (fitted c f is) h = rw (one-came (0, refl) c) f
+    by (short c f r is k) h = absurd (omega (arith, h, ap (λ a. a .number) is, in-table (r .reason) .1))
+    by (turned p is k) h = refused-out (sym p)
+
+pub leaves-room : (room : ℕ) (bytes : List ℕ) (d : View) (os : List Operation) (out work : List ℕ) → leaves room bytes d os out work .answer .number ≡ 0 → Fitting room os out work
+leaves-room room bytes d os out work h = by (run-judged (λ u. room) (λ u. bytes) (λ u. d) (λ u. os) out work (got tt 0)) h
+  where
+    by : {Kept : Type 0} {a : Answer} → Judged {U = Unit {0}} (got tt 0) (λ u. Fitting room os out work) (λ u. length bytes) Kept a → a .number ≡ 0 → Fitting room os out work
+    by (fitted c f is) h = f
+    by (short c f r is k) h = absurd (omega (arith, h, ap (λ a. a .number) is, in-table (r .reason) .1))
+    by (turned p is k) h = refused-out (sym p)
+
+-- such a call has written all its bytes
+pub leaves-there : (room : ℕ) (bytes : List ℕ) (d : View) (os : List Operation) (out work : List ℕ) → let r = leaves room bytes d os out work in
+    r .answer .number ≡ 0 → (r .answer ≡ accepted (length bytes)) × (take (r .answer .count) (r .out) ≡ bytes)
+leaves-there room bytes d os out work h =
+    let (a, b) = leaves-room room bytes d os out work h in
+    rw (leaves-all room bytes d os out work a b) (refl, over-front bytes out)
+
+-- past its steps the work area is as it came
+pub leaves-past : (room : ℕ) (bytes : List ℕ) (d : View) (os : List Operation) (out work : List ℕ) (i : ℕ) → roomBytes (small .row) * length os ≤ i → getD (leaves room bytes d os out work .work) i 0 ≡ getD work i 0
+leaves-past room bytes d os out work i l = by-room (leb room (length out) && leb (roomBytes (small .row) * length os) (length work))
+  where
+    by-room : (b : Bool) → getD (pick {A = Ran} b (record { answer = accepted (length bytes); out = over 0 bytes out; work = overwritten (workByte (small .row) d os) (roomBytes (small .row) * length os) work }) (untouched (record { reason = Room }) out work) .work) i 0 ≡ getD work i 0
+    by-room true = overwritten-past (workByte (small .row) d os) (roomBytes (small .row) * length os) work i l
+    by-room false = refl
