@@ -5,8 +5,8 @@ use lib.ListN.{replicate}
 use Rattle.meaning.specs.Limits.{stepLimit}
 use Rattle.meaning.specs.Relations.{nothing}
 use Rattle.meaning.specs.Refused.{numberOf}
-use Rattle.fields.specs.Read.{Read, got, refused}
-use Rattle.files.specs.Files.{mapped, programUnder}
+use Rattle.fields.specs.Read.{Read, got, refused, mapped}
+use Rattle.files.specs.Files.{programUnder}
 use Rattle.masks.specs.declared.Announced.{Announced}
 use Rattle.masks.specs.Announcement.{announcedSets, announcement}
 use Rattle.announce.specs.declared.Checked.{Checked}

@@ -1,3 +1,3 @@
 -- The laws behind the conversions of files, and the round trips.
-pub mod Answers
+pub mod Conversions
 pub mod RoundTrips

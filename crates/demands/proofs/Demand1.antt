@@ -22,7 +22,7 @@ use Rattle.masks.specs.declared.Announced.{Announced}
 use Rattle.announce.specs.Check.{checked, checkOf}
 use Rattle.masks.proofs.Announcement.{none-shown}
 use Rattle.rooms.specs.Layout.{workByte, overwritten}
-use Rattle.rooms.specs.Run.{Ran, performed, leaves, untouched}
+use Rattle.rooms.specs.Run.{Ran, performed, leaves, bothUntouched}
 use Rattle.runner.specs.Run.{ran, runOf}
 use Rattle.translator.specs.Translate.{translation}
 use Rattle.trammelbud.specs.Calls.{Asked, answerOf, readGraph, readDocument, readTables, readQuery, readProgram, asked, askedOr, chosen, selectOf, told, listOf}
@@ -67,13 +67,13 @@ unfolding lent
 writes (got file at) out = writes-stored file out
 writes (refused r) out = record { answers = turned-answers r; kept = λ h. refl }
 
-away : (r : Refusal) (out work : List ℕ) → Runs out work (untouched r out work)
+away : (r : Refusal) (out work : List ℕ) → Runs out work (bothUntouched r out work)
 away r out work = record { answers = turned-answers r; kept = λ h. (refl, refl) }
 
 leaves-runs : (room : ℕ) (bytes : List ℕ) (d : View) (os : List Operation) (out work : List ℕ) → Runs out work (leaves room bytes d os out work)
 leaves-runs room bytes d os out work = by-room (leb room (length out) && leb (roomBytes (small .row) * length os) (length work))
   where
-    by-room : (b : Bool) → Runs out work (pick b (record { answer = accepted (length bytes); out = over 0 bytes out; work = overwritten (workByte (small .row) d os) (roomBytes (small .row) * length os) work }) (untouched (record { reason = Room }) out work))
+    by-room : (b : Bool) → Runs out work (pick b (record { answer = accepted (length bytes); out = over 0 bytes out; work = overwritten (workByte (small .row) d os) (roomBytes (small .row) * length os) work }) (bothUntouched (record { reason = Room }) out work))
     by-room true = record { answers = accepted-answers (length bytes); kept = λ h. absurd (omega (arith, h)) }
     by-room false = away (record { reason = Room }) out work
 

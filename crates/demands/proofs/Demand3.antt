@@ -15,14 +15,14 @@ use Rattle.meaning.specs.Documents.{view, node}
 use Rattle.meaning.specs.Operations.{LegalProgram, last, answer}
 use Rattle.meaning.specs.Queries.{XPath}
 use Rattle.meaning.proofs.Theorems.{announcements-are-sound, nothing-announced-nothing-selected}
-use Rattle.fields.specs.Read.{Read, got, refused, bind}
+use Rattle.fields.specs.Read.{Read, got, refused, bind, mapped}
 use Rattle.fields.specs.Write.{Bytes}
 use Rattle.rel.specs.Rel.{programFile}
 use Rattle.masks.specs.Announcement.{announcement}
-use Rattle.files.specs.Files.{mapped, under}
+use Rattle.files.specs.Files.{under}
 use Rattle.files.proofs.Handed.{under-got, mapped-got}
 use Rattle.announce.specs.Check.{checked, checkOf}
-use Rattle.announce.proofs.Answers.{check-shows}
+use Rattle.announce.proofs.Checks.{check-shows}
 use Rattle.writing.specs.Lent.{fileIn}
 use Rattle.rooms.specs.Layout.{joined}
 use Rattle.runner.specs.Run.{runOf}

@@ -12,16 +12,15 @@ use Rattle.meaning.specs.declared.Reason.the-variants.{Steps, Room}
 use Rattle.meaning.specs.Limits.{stepLimit}
 use Rattle.meaning.specs.Queries.{XPath}
 use Rattle.meaning.specs.Translation.{translated, stepCount}
-use Rattle.fields.specs.Read.{pick}
+use Rattle.fields.specs.Read.{pick, mapped}
 use Rattle.query.specs.Qry.{queryFile}
 use Rattle.rel.specs.Rel.{programBytes}
-use Rattle.files.specs.Files.{mapped}
 use Rattle.files.proofs.Handed.{under-got}
 use Rattle.rel.proofs.Encoded.{program-bytes}
 use Rattle.writing.specs.Lent.{accepted, turnedAway, over, untouched, stored, lent, fileIn}
 use Rattle.writing.proofs.Stored.{stored-there, stored-file}
 use Rattle.translator.proofs.Checked.{file-length, translated-checked}
-use Rattle.translator.specs.Translate.{programOf, translation}
+use Rattle.translator.specs.Translate.{boundedProgram, translation}
 use Rattle.demands.specs.Demands.{OfGraph, OfQuery, OfProgram}
 use Rattle.demands.proofs.Legal.{graph-legal, query-legal}
 
@@ -41,11 +40,11 @@ module _ {gra : List ℕ} {g : Graph} (graph : OfGraph gra g) {qry : List ℕ} {
 
   -- a query of few steps is stored as its program; any other is turned away
   few-stored : stepCount p ≤ stepLimit → translation gra qry b ≡ stored file b
-  unfolding translation programOf mapped lent
+  unfolding translation boundedProgram mapped lent
   few-stored few = rw (under-got gra (λ g. queryFile (g .k) qry 0) (graph .accepts) (query .accepts), le-leb (stepCount p) stepLimit few)
 
   many-turned : leb (stepCount p) stepLimit ≡ false → translation gra qry b ≡ untouched (record { reason = Steps }) b
-  unfolding translation programOf mapped lent
+  unfolding translation boundedProgram mapped lent
   many-turned many = rw (under-got gra (λ g. queryFile (g .k) qry 0) (graph .accepts) (query .accepts), many)
 
   pub translate-answers : 6 + 3 * stepLimit ≤ length b

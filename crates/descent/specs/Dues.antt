@@ -35,9 +35,9 @@ weight (path p h) = pathCount 5 1 p
 weight (qualifier q h) = qualifierCount 5 1 q
 
 -- a qualifier stays where it is
-abbrev pub out : {k : ℕ} → Graph → ℕ → Part k → ℕ
-out g C (path p h) = translation.out g C p
-out g C (qualifier q h) = C
+abbrev pub kindsBehind : {k : ℕ} → Graph → ℕ → Part k → ℕ
+kindsBehind g C (path p h) = translation.out g C p
+kindsBehind g C (qualifier q h) = C
 
 -- a part stands where the descent is, and its steps may be added
 pub record Due (g : Graph) (s : List ℕ) (room : ℕ) (from : Place) : Type 0 where
@@ -52,4 +52,4 @@ pub record Due (g : Graph) (s : List ℕ) (room : ℕ) (from : Place) : Type 0 w
 -- whichever part was due is translated
 pub record Done (g : Graph) (s old new : List ℕ) (from to : Place) : Type 0 where
   pub done : (d : Due g s (length old) from) → let C = from .kinds in let p = d .part in
-      Goes (adds g C p) (weight p) (out g C p) (from .at + length (bytesOf p)) old new (from .steps) to
+      Goes (adds g C p) (weight p) (kindsBehind g C p) (from .at + length (bytesOf p)) old new (from .steps) to

@@ -63,7 +63,7 @@ Typed Leaf.Children k xs = Unit
 Typed Leaf.Text k xs = Unit
 
 -- the fields are there, and there is room for the step
-pub record Stands (leaf : Leaf) (g : Graph) (s : List ℕ) (room : ℕ) (from : Place) : Type 0 where
+pub record LeafDue (leaf : Leaf) (g : Graph) (s : List ℕ) (room : ℕ) (from : Place) : Type 0 where
   pub graph : LegalGraph g
   pub short : length s < 128
   pub here : from .at ≤ length s
@@ -86,8 +86,8 @@ endingCount Ending.Has = 1
 endingCount Ending.Not = 2
 
 -- these are written, and the kinds are those of the whole
-abbrev pub Ends : Ending → ℕ → List ℕ → List ℕ → Place → Place → Type 0
-Ends ending C old new inner to = Goes (endingSteps ending) (endingCount ending) C (inner .at) old new (inner .steps) to
+abbrev pub Finishes : Ending → ℕ → List ℕ → List ℕ → Place → Place → Type 0
+Finishes ending C old new inner to = Goes (endingSteps ending) (endingCount ending) C (inner .at) old new (inner .steps) to
 
 -- Between two parts, of which the first leads to the kinds K: steps, and the kinds of the second, where the whole stands under C.
 abbrev pub betweenSteps : Second → Graph → ℕ → Adds
@@ -100,10 +100,10 @@ betweenCount Second.After = 0
 betweenCount Second.Beside = 0
 betweenCount Second.Deeper = 5
 
-abbrev pub under : Second → Graph → ℕ → ℕ → ℕ
-under Second.After g C K = K
-under Second.Beside g C K = C
-under Second.Deeper g C K = orReachable g K
+abbrev pub secondKinds : Second → Graph → ℕ → ℕ → ℕ
+secondKinds Second.After g C K = K
+secondKinds Second.Beside g C K = C
+secondKinds Second.Deeper g C K = orReachable g K
 
 -- behind the first part there is room for the steps between
 pub record Between (second : Second) (g : Graph) (room : ℕ) (left : Place) : Type 0 where
@@ -113,7 +113,7 @@ pub record Between (second : Second) (g : Graph) (room : ℕ) (left : Place) : T
 
 -- these are written, and the second part begins
 abbrev pub Begins : Second → Graph → ℕ → List ℕ → List ℕ → Place → Place → Type 0
-Begins second g C old new left to = let K = left .kinds in Goes (betweenSteps second g K) (betweenCount second) (under second g C K) (left .at) old new (left .steps) to
+Begins second g C old new left to = let K = left .kinds in Goes (betweenSteps second g K) (betweenCount second) (secondKinds second g C K) (left .at) old new (left .steps) to
 
 -- Behind both, of which the second leads to the kinds L.
 abbrev pub led : Second → ℕ → ℕ → ℕ

@@ -5,7 +5,7 @@ use mathlib.Core.List.{List}
 use lib.ListN.{length}
 use Rattle.meaning.specs.Limits.{elementLimit}
 use Rattle.fields.specs.Read.{Read, beside}
-use Rattle.elements.specs.Kept.{keptIn}
+use Rattle.elements.specs.Packing.{keptIn}
 use Rattle.tre.specs.Tre.{Open}
 use Rattle.document.specs.declared.Standing.{Standing}
 use Rattle.document.specs.declared.Turn.{Turn}
@@ -20,6 +20,6 @@ pub record HasRoom (kept : List ℕ) (st : Standing) : Type 0 where
   pub most : st .count ≤ elementLimit
 
 -- e was read: it is what is open, or a part of it, beside where reading goes on, or the refusal was met
-pub record Answers {A : Type 0} (part : Open → A) (kept : List ℕ) (turn : Turn) (e : Read A) : Type 0 where
+pub record OpenRead {A : Type 0} (part : Open → A) (kept : List ℕ) (turn : Turn) (e : Read A) : Type 0 where
   pub room : HasRoom kept (turn .state)
   pub right : beside (turn .next) (part (openIn kept (turn .state))) ≡ e

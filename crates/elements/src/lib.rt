@@ -6,7 +6,7 @@ ghost use lib.ListN.{length, getD};
 ghost use Rattle.meaning.specs.Documents.{node};
 ghost use Rattle.fields.specs.Read.{readOf};
 ghost use Rattle.fields.specs.Outcomes.{outcomeOf};
-ghost use Rattle.elements.specs.Kept.{elementIn, keptIn};
+ghost use Rattle.elements.specs.Packing.{elementIn, keptIn};
 use fields::Field;
 use meaning::Element;
 use meaning::Outcome;

@@ -23,6 +23,10 @@ abbrev pub bind : {A B : Type 0} → Read A → (A → ℕ → Read B) → Read 
 bind (got a at) f = f a at
 bind (refused r) f = refused r
 
+-- what is made of what was read
+unfoldable pub mapped : {A B : Type 0} → (A → B) → Read A → Read B
+mapped f e = bind e λ a at. got (f a) at
+
 infixl 10 _>>=_
 infixl 10 _>>_
 abbrev pub _>>=_ : {A B : Type 0} → Reader A → (A → Reader B) → Reader B

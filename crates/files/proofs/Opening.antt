@@ -22,25 +22,25 @@ use Rattle.fields.specs.Read.{Read, got, refused, bind}
 use Rattle.fields.specs.Outcomes.{outcomeOf, valueOr}
 use Rattle.fields.proofs.Outcomes.{turned, held}
 use Rattle.elements.specs.declared.ElementsRead.{ElementsRead}
-use Rattle.elements.specs.Kept.{keptIn, Keeps}
-use Rattle.elements.proofs.Kept.{held-long}
+use Rattle.elements.specs.Packing.{keptIn, Keeps}
+use Rattle.elements.proofs.Packing.{held-long}
 use Rattle.graph.specs.declared.GraphRead.{GraphRead}
 use Rattle.graph.specs.Gra.{graphFile}
-use Rattle.graph.specs.Answers.{graphRead}
-use Rattle.graph.proofs.Held.{graph-turned, graph-held, graph-legal}
+use Rattle.graph.specs.GraphRead.{graphRead}
+use Rattle.graph.proofs.Known.{graph-turned, graph-held, graph-legal}
 use Rattle.tre.specs.Tre.{documentFile}
 use Rattle.tre.proofs.File.{document-read}
 use Rattle.edg.specs.Edg.{tablesFile}
 use Rattle.edg.proofs.File.{tables-read}
 use Rattle.query.specs.declared.QueryRead.{QueryRead}
 use Rattle.query.specs.Qry.{queryFile}
-use Rattle.query.specs.Answers.{queryRead}
+use Rattle.query.specs.PartsRead.{queryRead}
 use Rattle.rel.specs.Rel.{programFile}
 use Rattle.program.specs.declared.ProgramRead.{ProgramRead}
-use Rattle.program.specs.Answers.{programRead}
-use Rattle.program.proofs.Held.{program-turned, program-held, program-count, program-legal}
+use Rattle.program.specs.ProgramRead.{programRead}
+use Rattle.program.proofs.Known.{program-turned, program-held, program-count, program-legal}
 use Rattle.files.proofs.Handed.{under-out}
-use Rattle.files.specs.Files.{under, then, documentUnder, tablesUnder, queryUnder, programUnder, tablesThenQuery, tablesThenProgram, Opens, OfElements, OfQuery, OfProgram, OfTablesThenQuery, OfTablesThenProgram}
+use Rattle.files.specs.Files.{under, followedBy, documentUnder, tablesUnder, queryUnder, programUnder, tablesThenQuery, tablesThenProgram, Opens, OfElements, OfQuery, OfProgram, OfTablesThenQuery, OfTablesThenProgram}
 
 -- a refusal that is handed on
 away : {A : Type 0} {e : Read A} {r : Refusal} (P : A → Type 0) → e ≡ refused r → Opens e (outcome.Refused r) P
@@ -137,8 +137,8 @@ module _ (gra : List ℕ) {x : GraphRead} (p : x ≡ graphRead (graphFile gra 0)
 module _ (gra edg : List ℕ) {o : Outcome} {g : Graph} {kept : List ℕ} {count : ℕ} (p : Opens (tablesUnder gra edg) o (OfElements g kept count)) where
   module _ {A : Type 0} (f : Graph → Read A) where
     -- the tables are refused, or the graph before them
-    tables-away : (P : Graph × (List Element × A) → Type 0) {r : Refusal} → o ≡ outcome.Refused r → Opens (under gra λ g. then (tablesFile elementLimit g edg 0) (f g)) o P
-    unfolding under then
+    tables-away : (P : Graph × (List Element × A) → Type 0) {r : Refusal} → o ≡ outcome.Refused r → Opens (under gra λ g. followedBy (tablesFile elementLimit g edg 0) (f g)) o P
+    unfolding under followedBy
     tables-away P {r} h = rw h (away P (by-graph (graphFile gra 0) (p .turned h)))
       where
         by-tables : (g : Graph) (t : Read (List Element)) → bind {B = Graph × List Element} t (λ a n. got (g, a) n) ≡ refused r
@@ -155,8 +155,8 @@ module _ (gra edg : List ℕ) {o : Outcome} {g : Graph} {kept : List ℕ} {count
     module _ (h : o ≡ outcome.Accepted) where
       tables-follow : (P : Graph × (List Element × A) → Type 0) {o′ : Outcome} → ((r : Refusal) → o′ ≡ outcome.Refused r → f g ≡ refused r)
           → (o′ ≡ outcome.Accepted → (a : A) × (n : ℕ) × (f g ≡ got a n) × ((es : List Element) → OfElements g kept count (g, es) → P (g, (es, a))))
-          → Opens (under gra λ g. then (tablesFile elementLimit g edg 0) (f g)) o′ P
-      unfolding under then
+          → Opens (under gra λ g. followedBy (tablesFile elementLimit g edg 0) (f g)) o′ P
+      unfolding under followedBy
       tables-follow P away on =
           let (x, n, e, w) = p .held h in
           let (m, read, tables) = under-out gra (λ g. tablesFile elementLimit g edg 0) e in

@@ -17,7 +17,7 @@ use Rattle.meaning.specs.Queries.{XPath}
 use Rattle.meaning.specs.Operations.{LegalProgram}
 use Rattle.meaning.specs.Records.{operationsIn}
 use Rattle.fields.specs.Read.{Read, got, refused, bind}
-use Rattle.elements.specs.Kept.{keptIn}
+use Rattle.elements.specs.Packing.{keptIn}
 use Rattle.graph.specs.Gra.{graphFile}
 use Rattle.tre.specs.Tre.{documentFile}
 use Rattle.edg.specs.Edg.{tablesFile}
@@ -28,13 +28,9 @@ use Rattle.rel.specs.Rel.{programFile}
 unfoldable pub under : {A : Type 0} → List ℕ → (Graph → Read A) → Read (Graph × A)
 under gra f = bind (graphFile gra 0) λ g _. bind (f g) λ a n. got (g, a) n
 
--- what is made of what was read
-unfoldable pub mapped : {A B : Type 0} → (A → B) → Read A → Read B
-mapped f e = bind e λ a n. got (f a) n
-
 -- one file, then another
-unfoldable pub then : {A B : Type 0} → Read A → Read B → Read (A × B)
-then x y = bind x λ a _. bind y λ b n. got (a, b) n
+unfoldable pub followedBy : {A B : Type 0} → Read A → Read B → Read (A × B)
+followedBy x y = bind x λ a _. bind y λ b n. got (a, b) n
 
 -- a graph and a document, tables, a query, a program
 abbrev pub documentUnder : List ℕ → List ℕ → Read (Graph × List Element)
@@ -52,10 +48,10 @@ programUnder gra rel = under gra λ g. programFile (g .k) rel 0
 
 -- tables and then a query, tables and then a program
 abbrev pub tablesThenQuery : List ℕ → List ℕ → List ℕ → Read (Graph × (List Element × (XPath × ℕ)))
-tablesThenQuery gra edg qry = under gra λ g. then (tablesFile elementLimit g edg 0) (queryFile (g .k) qry 0)
+tablesThenQuery gra edg qry = under gra λ g. followedBy (tablesFile elementLimit g edg 0) (queryFile (g .k) qry 0)
 
 abbrev pub tablesThenProgram : List ℕ → List ℕ → List ℕ → Read (Graph × (List Element × List Operation))
-tablesThenProgram gra edg rel = under gra λ g. then (tablesFile elementLimit g edg 0) (programFile (g .k) rel 0)
+tablesThenProgram gra edg rel = under gra λ g. followedBy (tablesFile elementLimit g edg 0) (programFile (g .k) rel 0)
 
 -- What the code's answers say of it: for contracts between the rooms.
 

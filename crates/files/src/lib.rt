@@ -3,7 +3,7 @@
 ghost use mathlib.Core.Path.{_≡_};
 ghost use lib.ListN.{length};
 ghost use Rattle.meaning.specs.Limits.{elementLimit};
-ghost use Rattle.elements.specs.Kept.{blankPlaces};
+ghost use Rattle.elements.specs.Packing.{blankPlaces};
 ghost use Rattle.files.specs.Files.{documentUnder, tablesUnder, queryUnder, programUnder, tablesThenQuery, tablesThenProgram, Opens, OfElements, OfQuery, OfProgram, OfTablesThenQuery, OfTablesThenProgram};
 use meaning::Graph;
 use meaning::Outcome;

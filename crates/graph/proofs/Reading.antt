@@ -25,7 +25,7 @@ use Rattle.fields.proofs.Formats.{bind-out, judge-out, got-same}
 use Rattle.graph.specs.declared.GraphRead.{GraphRead}
 use Rattle.graph.specs.declared.MasksRead.{MasksRead}
 use Rattle.graph.specs.Gra.{allMasks, typesRead, graph, graphFile}
-use Rattle.graph.specs.Answers.{noGraph, graphRead}
+use Rattle.graph.specs.GraphRead.{noGraph, graphRead}
 
 -- what is answered where a field turned the file away
 abbrev refusedBy : Field → GraphRead

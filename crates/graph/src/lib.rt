@@ -5,7 +5,7 @@ ghost use Rattle.meaning.specs.Limits.{types};
 ghost use Rattle.fields.specs.Read.{readOf, beside, ended};
 ghost use Rattle.fields.specs.Outcomes.{outcomeOf};
 ghost use Rattle.graph.specs.Gra.{allMasks, typesRead, graphFile};
-ghost use Rattle.graph.specs.Answers.{noGraph, graphRead};
+ghost use Rattle.graph.specs.GraphRead.{noGraph, graphRead};
 use fields::Cursor;
 use fields::Field;
 use meaning::Graph;

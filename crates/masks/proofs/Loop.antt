@@ -19,7 +19,7 @@ use Rattle.meaning.specs.Announcements.{pairs, announced}
 use Rattle.meaning.specs.Records.{operationsIn}
 use Rattle.meaning.proofs.Records.{operation-at}
 use Rattle.masks.specs.declared.Announced.{Announced}
-use Rattle.masks.specs.Pairs.{relOf, operandsOf, Legal}
+use Rattle.masks.specs.Pairs.{relOf, operandsOf, LegalUnder}
 use Rattle.masks.specs.Announcement.{announcement}
 use Rattle.masks.proofs.Announcement.{nothing-on, sets-made, blank, announcement-shown, announcement-more}
 
@@ -60,7 +60,7 @@ operands-small k s (Diff a b) h l = (omega (arith, h .0), omega (arith, h .1))
 operands-small k s (Both a b) h l = (omega (arith, h .0), omega (arith, h .1))
 
 -- turn i: the operation o of step i reads the steps x and y
-module _ (g : Graph) (p : Program) (legal : Legal g p) (long : length (p .steps) ≡ stepLimit) {i : ℕ} (l : i < p .count) (d : Step) {x y : ℕ}
+module _ (g : Graph) (p : Program) (legal : LegalUnder g p) (long : length (p .steps) ≡ stepLimit) {i : ℕ} (l : i < p .count) (d : Step) {x y : ℕ}
     (e : (x, y) ≡ operandsOf (getD (p .steps) i d .operation)) where
   abbrev o : Operation
   o = getD (p .steps) i d .operation

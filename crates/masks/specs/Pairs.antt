@@ -1,7 +1,6 @@
 -- Announcements as relations on kinds, and what an operation reads.
 use Prim.Native.Nat.{ℕ, _≤_}
 use mathlib.Core.Bool.{Bool, _&&_}
-use lib.Dec.{eqb}
 use lib.ListN.{getD}
 use Rattle.meaning.specs.declared.Graph.{Graph}
 use Rattle.meaning.specs.declared.Operation.{Operation}
@@ -27,10 +26,6 @@ mixture mix.Either = unite
 mixture mix.Both = intersection
 mixture mix.Joined = join kinds
 
--- each number that passes, with itself
-unfoldable pub diagonal : (ℕ → Bool) → Relation
-diagonal f A B = eqb A B && f A
-
 -- what r joins the kinds that pass to
 unfoldable pub imageOf : Relation → (ℕ → Bool) → ℕ → Bool
 imageOf r f B = any kinds (λ K. f K && r K B)
@@ -48,7 +43,7 @@ operandsOf (Diff a b) = (a, b)
 operandsOf (Both a b) = (a, b)
 
 -- a graph and a program as the readers hand them on
-pub record Legal (g : Graph) (p : Program) : Type 0 where
+pub record LegalUnder (g : Graph) (p : Program) : Type 0 where
   pub graph : LegalGraph g
   pub program : LegalProgram stepLimit (g .k) (operationsIn p)
   pub count : p .count ≤ stepLimit

@@ -6,11 +6,11 @@ ghost use Prim.Native.Nat.{ℕ, _<_};
 ghost use Rattle.meaning.specs.declared.Operation.the-variants.{Table};
 ghost use Rattle.meaning.specs.Limits.{kinds};
 ghost use Rattle.meaning.specs.Sets.{bit};
-ghost use Rattle.meaning.specs.Relations.{Relation, nothing, closure, has, at};
+ghost use Rattle.meaning.specs.Relations.{Relation, nothing, closure, has, at, diagonal};
 ghost use Rattle.meaning.specs.Graphs.{LegalGraph};
 ghost use Rattle.meaning.specs.Announcements.{pairs};
 ghost use Rattle.meaning.specs.Records.{operationsIn};
-ghost use Rattle.masks.specs.Pairs.{relOf, mixture, diagonal, imageOf, operandsOf, Legal};
+ghost use Rattle.masks.specs.Pairs.{relOf, mixture, imageOf, operandsOf, LegalUnder};
 ghost use Rattle.masks.specs.Announcement.{announcement};
 use meaning::Graph;
 use meaning::Operation;
@@ -192,7 +192,7 @@ fn pairs(g: Graph, operation: Operation, a: Announced, b: Announced) -> Announce
 
 // Step by step, each from those before it. Its operands alone are handed on: all steps by value would be copied at each call.
 pub fn announce(g: Graph, p: Program) -> [Announced; STEPS]
-    requires { ⌜ Legal g p ⌝ }
+    requires { ⌜ LegalUnder g p ⌝ }
     ensures { λ r. ⌜ r ≡ announcement g (operationsIn p) ⌝ }
 {
     let count = p.count;

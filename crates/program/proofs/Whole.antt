@@ -25,7 +25,7 @@ use Rattle.fields.specs.Read.{Read, Reader, got, refused, bind, _>>=_, _>>_, gi
 use Rattle.fields.proofs.Laws.{taken, handed, taken-passed, handed-passed, beside-got, beside-refused}
 use Rattle.rel.specs.Rel.{stepRead, stepsRead, program, programFile}
 use Rattle.program.specs.declared.ProgramRead.{ProgramRead}
-use Rattle.program.specs.Answers.{refusedBy, programRead}
+use Rattle.program.specs.ProgramRead.{refusedBy, programRead}
 use Rattle.program.proofs.Laws.{at-most}
 
 abbrev pub empty : Program

@@ -3,7 +3,7 @@ ghost use mathlib.Core.Path.{_≡_};
 ghost use Prim.Native.Nat.{_≤_};
 ghost use Rattle.fields.specs.Read.{readOf, beside, ended};
 ghost use Rattle.rel.specs.Rel.{readX, readY, operationOf, stepRead, stepsRead, programFile};
-ghost use Rattle.program.specs.Answers.{Coded, refusedBy, programRead};
+ghost use Rattle.program.specs.ProgramRead.{FitsLayout, refusedBy, programRead};
 use fields::Cursor;
 use fields::Field;
 use meaning::Operation;
@@ -61,7 +61,7 @@ fn read_y(s: &[u8], c: Cursor, layout: Layout, number: u8) -> Field
 
 // The operation of a code, with x and y. An operand is a byte, so its low byte is all of it.
 fn operation(code: u16, x: u16, y: u16) -> Operation
-    requires { ⌜ Coded code x y ⌝ }
+    requires { ⌜ FitsLayout code x y ⌝ }
     ensures { λ r. ⌜ r ≡ operationOf code x y ⌝ }
 {
     let a = low(x);

@@ -18,7 +18,7 @@ use Rattle.fields.specs.Read.{Read, Reader, got, refused, bind, refusalOf, read
 use Rattle.fields.proofs.Laws.{taken, handed}
 use Rattle.fields.proofs.Formats.{refused-out, got-same}
 use Rattle.query.specs.Qry.{Sort, path, qualifier, Tree, Follows, leaf, field, one, two, unknown, codes, following, nodeCode, part, queryFile}
-use Rattle.query.specs.Answers.{leftOf, PartRead, Then, goes-on, ends, leaving, queryRead}
+use Rattle.query.specs.PartsRead.{leftOf, PartRead, Then, goes-on, ends, leaving, queryRead}
 use Rattle.query.proofs.Parts.{Counted, counted, ended, part-counted, query-counted}
 
 -- What a reading was of which only the nodes left are known.

@@ -3,7 +3,7 @@
 ghost use mathlib.Core.Path.{_≡_};
 ghost use Rattle.fields.specs.Read.{readOf};
 ghost use Rattle.query.specs.Qry.{path, qualifier, nodeCode, queryFile};
-ghost use Rattle.query.specs.Answers.{leftOf, PartRead, Then, leaving, queryRead};
+ghost use Rattle.query.specs.PartsRead.{leftOf, PartRead, Then, leaving, queryRead};
 use fields::Cursor;
 use fields::Field;
 use meaning::Outcome;

@@ -7,7 +7,7 @@ use Rattle.meaning.specs.declared.Graph.{Graph}
 use Rattle.meaning.specs.declared.Element.{Element}
 use Rattle.meaning.specs.Limits.{elementLimit}
 use Rattle.meaning.specs.Documents.{node, Accepted}
-use Rattle.elements.specs.Kept.{keptIn}
+use Rattle.elements.specs.Packing.{keptIn}
 use Rattle.tre.specs.Tre.{closes, tokensOf}
 
 -- what the document of n elements needs and has
@@ -29,6 +29,6 @@ abbrev pub tokensIn : List Element → List ℕ
 tokensIn es = tokensOf es 0 (length es)
 
 -- there is room for the bytes that are to be written of the elements
-pub record Writable (kept : List ℕ) (count : ℕ) (bytes : List ℕ) (at : ℕ) (out : List ℕ) : Type 0 where
+pub record TokensFit (kept : List ℕ) (count : ℕ) (bytes : List ℕ) (at : ℕ) (out : List ℕ) : Type 0 where
   pub held : Held kept count
   pub room : at + length bytes ≤ length out

@@ -1,5 +1,5 @@
 pub mod Layout
 pub mod Rooms
-pub mod Ready
+pub mod FitToRun
 pub mod Steps
 pub mod Run

@@ -11,7 +11,7 @@ use Rattle.meaning.specs.Sets.{any}
 use Rattle.meaning.specs.Relations.{Relation}
 use Rattle.meaning.specs.Documents.{View, textTest}
 use Rattle.rows.specs.declared.Mix.the-variants.{First}
-use Rattle.rows.specs.Rows.{gathered, mixes, rowsAt, Kept}
+use Rattle.rows.specs.Rows.{gathered, mixes, rowsAt, OthersStay}
 use Rattle.rooms.specs.declared.room.Test.{Test}
 use Rattle.rooms.specs.declared.room.Test.the-variants.{Always, Text, Related}
 use Rattle.rooms.specs.declared.room.Way.{Way}
@@ -69,14 +69,14 @@ pub record Testable (width end kept count : ℕ) (test : Test) : Type 0 where
   pub held : count ≤ kept
 
 -- the room at base holds r, and all else stays
-pub record Made (width : ℕ) (old new : List ℕ) (base : ℕ) (r : Relation) : Type 0 where
+pub record RoomMade (width : ℕ) (old new : List ℕ) (base : ℕ) (r : Relation) : Type 0 where
   pub rows : (v w : ℕ) → rowsAt width new base v w ≡ r v w
-  pub others : Kept old new base (roomBytes width)
+  pub others : OthersStay old new base (roomBytes width)
 
 -- The row of v in the room at base has taken in the rows of those that the room at a relates v to; grew says whether it
 -- has more for it.
 pub record Taken (width : ℕ) (old new : List ℕ) (base a v : ℕ) (grew : Bool) : Type 0 where
-  pub row : Made width old new base (changed v (gathered (rowBits width) (rowsAt width old base) (rowsAt width old a v) (rowsAt width old base v)) (rowsAt width old base))
+  pub row : RoomMade width old new base (changed v (gathered (rowBits width) (rowsAt width old base) (rowsAt width old a v) (rowsAt width old base v)) (rowsAt width old base))
   pub more : grew ≡ any (rowBits width) (λ w. mixes First (rowsAt width new base v w) (rowsAt width old base v w))
 
 -- From `from` on each row of `before` below size has taken in those that r relates its number to, as they were; of higher
@@ -93,7 +93,7 @@ pub record Grown (size : ℕ) (r before after : Relation) (from : ℕ) : Type 0 
 pub record Swept (width size : ℕ) (old new : List ℕ) (base a : ℕ) (again : Bool) : Type 0 where
   pub rows : Grown size (rowsAt width old a) (rowsAt width old base) (rowsAt width new base) 0
   pub closed : again ≡ false → (v u w : ℕ) → v < size → rowsAt width old a v u ≡ true → rowsAt width new base u w ≡ true → rowsAt width new base v w ≡ true
-  pub others : Kept old new base (roomBytes width)
+  pub others : OthersStay old new base (roomBytes width)
 
 -- what closing asks: the room at a relates numbers below size, of which there are some
 pub record Closable (width : ℕ) (bytes : List ℕ) (base a size : ℕ) : Type 0 where

@@ -10,7 +10,8 @@ use Rattle.meaning.specs.Lists.{table}
 use Rattle.meaning.specs.Relations.{Relation}
 use Rattle.meaning.specs.Operations.{LegalOperation}
 use Rattle.rows.specs.Rows.{rowsAt}
-use Rattle.rooms.specs.Ready.{shown, Nodes}
+use Rattle.elements.specs.Packing.{shown}
+use Rattle.rooms.specs.FitToRun.{Nodes}
 use Rattle.rooms.specs.Rooms.{RowWidth}
 
 -- the relations of the first n rooms of the work area

@@ -6,8 +6,9 @@ ghost use Rattle.meaning.specs.Limits.{roomBytes};
 ghost use Rattle.meaning.specs.Operations.{rows};
 ghost use Rattle.meaning.specs.Records.{operationsIn};
 ghost use Rattle.rooms.specs.Layout.{workByte, overwritten};
-ghost use Rattle.rooms.specs.Rooms.{RowWidth, Made};
-ghost use Rattle.rooms.specs.Ready.{shown, Ready};
+ghost use Rattle.rooms.specs.Rooms.{RowWidth, RoomMade};
+ghost use Rattle.elements.specs.Packing.{shown};
+ghost use Rattle.rooms.specs.FitToRun.{FitToRun};
 ghost use Rattle.rooms.specs.Steps.{roomsIn, Makeable};
 ghost use Rattle.rooms.specs.Run.{performed, Gives};
 
@@ -41,7 +42,7 @@ fn place(step: u8, width: usize) -> usize
 // Makes step s in its room, from the rooms of its operands.
 fn make(work: &mut [u8], kept: &[u32], count: usize, s: usize, operation: Operation, width: usize)
     requires { ⌜ Makeable width (now kept) count (now work) s operation ⌝ }
-    ensures { λ r. ⌜ Made width (now (work .entry)) (now (work .exit)) (roomBytes width * s) (rows (shown (now (kept .entry)) count) (roomsIn width (now (work .entry)) s) operation) ⌝ }
+    ensures { λ r. ⌜ RoomMade width (now (work .entry)) (now (work .exit)) (roomBytes width * s) (rows (shown (now (kept .entry)) count) (roomsIn width (now (work .entry)) s) operation) ⌝ }
 {
     let base = room_at(s, width);
     let size = count + 1;
@@ -105,7 +106,7 @@ fn make(work: &mut [u8], kept: &[u32], count: usize, s: usize, operation: Operat
 
 // Makes the steps in turn.
 fn perform(work: &mut [u8], kept: &[u32], count: usize, program: Program, width: usize)
-    requires { ⌜ RowWidth width × Ready (now kept) count program × (roomBytes width * program .count ≤ length (now work)) ⌝ }
+    requires { ⌜ RowWidth width × FitToRun (now kept) count program × (roomBytes width * program .count ≤ length (now work)) ⌝ }
     ensures { λ r. ⌜ now (work .exit) ≡ overwritten (workByte width (shown (now (kept .entry)) count) (operationsIn program)) (roomBytes width * program .count) (now (work .entry)) ⌝ }
 {
     let steps = program.count;
@@ -126,7 +127,7 @@ pub fn run_over(
     out: &mut [u8],
     work: &mut [u8],
 ) -> Answer
-    requires { ⌜ Ready (now kept) count program ⌝ }
+    requires { ⌜ FitToRun (now kept) count program ⌝ }
     ensures { λ r. ⌜ Gives (performed (shown (now (kept .entry)) count) (operationsIn program) (now (out .entry)) (now (work .entry))) r (now (out .exit)) (now (work .exit)) ⌝ }
 {
     let width = SMALL.row;

@@ -41,8 +41,8 @@ mixes Both a b = a && b
 mixes First a b = a && not b
 
 -- two relations, mixed
-unfoldable pub mixture : Mix → Relation → Relation → Relation
-mixture how r s v w = mixes how (r v w) (s v w)
+unfoldable pub mixedRows : Mix → Relation → Relation → Relation
+mixedRows how r s v w = mixes how (r v w) (s v w)
 
 -- two words, mixed
 unfoldable pub mixedWord : Mix → ℕ → ℕ → ℕ
@@ -66,25 +66,21 @@ pub record Placed (width base v at : ℕ) : Type 0 where
   pub below : v < rowBits width
   pub inside : at + width ≤ base + roomBytes width
 
--- each number that passes, to itself
-unfoldable pub diagonal : (ℕ → Bool) → Relation
-diagonal f v w = eqb v w && f v
-
 -- all stays but size bytes from a place on
-pub record Kept (old new : List ℕ) (from size : ℕ) : Type 0 where
+pub record OthersStay (old new : List ℕ) (from size : ℕ) : Type 0 where
   pub same : length new ≡ length old
   pub before : (i : ℕ) → i < from → getD new i 0 ≡ getD old i 0
   pub after : (i : ℕ) → from + size ≤ i → getD new i 0 ≡ getD old i 0
 
 -- so many bytes from a place on are f's, and all else stays
-pub record Written (old new : List ℕ) (from size : ℕ) (f : ℕ → ℕ) : Type 0 where
+pub record BytesMade (old new : List ℕ) (from size : ℕ) (f : ℕ → ℕ) : Type 0 where
   pub bytes : (k : ℕ) → k < size → getD new (from + k) 0 ≡ f k
-  pub others : Kept old new from size
+  pub others : OthersStay old new from size
 
 -- the bits at a place, width bytes of them, are those that pass, and all else stays
 pub record RowMade (width : ℕ) (old new : List ℕ) (at : ℕ) (f : ℕ → Bool) : Type 0 where
   pub bits : (w : ℕ) → inBytes (stretch width new at) w ≡ f w
-  pub others : Kept old new at width
+  pub others : OthersStay old new at width
 
 -- w is put into the row at a place, where it is to be there, however wide the row is
 pub record BitPut (old new : List ℕ) (at w : ℕ) (there : Bool) : Type 0 where

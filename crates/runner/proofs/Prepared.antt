@@ -13,8 +13,8 @@ use Rattle.meaning.specs.Operations.{LegalProgram}
 use Rattle.meaning.specs.Records.{operationsIn}
 use Rattle.meaning.proofs.KindSets.{edge-types}
 use Rattle.meaning.proofs.Views.{accepted-keeps}
-use Rattle.elements.specs.Kept.{keptIn}
-use Rattle.rooms.specs.Ready.{Nodes, Ready}
+use Rattle.elements.specs.Packing.{keptIn}
+use Rattle.rooms.specs.FitToRun.{Nodes, FitToRun}
 
 module _ (g : Graph) (legal : LegalGraph g) {kept : List ℕ} {count : ℕ} (a : Accepted elementLimit g (keptIn kept count)) (room : count ≤ length kept) (whole : length (keptIn kept count) ≡ count) where
   accepted-nodes : Nodes kept count
@@ -27,5 +27,5 @@ module _ (g : Graph) (legal : LegalGraph g) {kept : List ℕ} {count : ℕ} (a :
         kinds = λ w e. omega (arith, edge-types g legal _ _ (keeps .edge w e) .1, legal .most-types);
       }
 
-  pub ready : {p : Program} → LegalProgram stepLimit (g .k) (operationsIn p) → length (operationsIn p) ≡ p .count → Ready kept count p
+  pub ready : {p : Program} → LegalProgram stepLimit (g .k) (operationsIn p) → length (operationsIn p) ≡ p .count → FitToRun kept count p
   ready l n = record { nodes = accepted-nodes; whole = n; k = g .k; legal = l }

@@ -22,7 +22,7 @@ use Rattle.rooms.specs.Layout.{workByte, overwritten}
 use Rattle.rooms.specs.Run.{performed, Gives}
 use Rattle.runner.specs.Run.{runOf}
 use Rattle.runner.specs.Promises.{Roomy, Promised, Alike}
-use Rattle.rows.proofs.Answers.{tally-most}
+use Rattle.rows.proofs.Tallies.{tally-most}
 use Rattle.rooms.proofs.Layouts.{over-past, overwritten-past, overwritten-length, overwritten-taken, joined-is}
 use Rattle.rooms.proofs.Outcomes.{leaves-all}
 use Rattle.runner.proofs.Files.{runs-as}

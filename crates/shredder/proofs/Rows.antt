@@ -12,8 +12,8 @@ use borrow.Author.Needs.{needs}
 use borrow.Author.Tests.{eq-eqb, ne-eqb}
 use Rattle.meaning.specs.declared.Element.{Element}
 use Rattle.meaning.specs.Documents.{documentNode, node}
-use Rattle.elements.specs.Kept.{keptIn}
-use Rattle.elements.proofs.Kept.{held-room}
+use Rattle.elements.specs.Packing.{keptIn}
+use Rattle.elements.proofs.Packing.{held-room}
 use Rattle.fields.specs.Read.{pick}
 use Rattle.edg.specs.declared.Row.{Row}
 use Rattle.edg.specs.Edg.{rowsOf, rowBytes, rowsBytes}

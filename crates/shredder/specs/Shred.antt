@@ -7,7 +7,7 @@ use Rattle.meaning.specs.declared.Graph.{Graph}
 use Rattle.meaning.specs.Limits.{elementLimit}
 use Rattle.meaning.specs.Graphs.{LegalGraph}
 use Rattle.meaning.specs.Documents.{Accepted}
-use Rattle.elements.specs.Kept.{keptIn}
+use Rattle.elements.specs.Packing.{keptIn}
 
 -- what the tables of n elements under k types need and have
 abbrev pub tablesLength : ℕ → ℕ → ℕ
@@ -20,7 +20,7 @@ pub record HeldUnder (g : Graph) (kept : List ℕ) (count : ℕ) : Type 0 where
   pub accepted : Accepted elementLimit g (keptIn kept count)
 
 -- as many elements are kept as are counted, not too many, and there is room for the bytes that are to be written of them
-pub record Writable (kept : List ℕ) (count : ℕ) (bytes : List ℕ) (at : ℕ) (out : List ℕ) : Type 0 where
+pub record RowsFit (kept : List ℕ) (count : ℕ) (bytes : List ℕ) (at : ℕ) (out : List ℕ) : Type 0 where
   pub long : length (keptIn kept count) ≡ count
   pub most : count ≤ elementLimit
   pub room : at + length bytes ≤ length out

@@ -60,6 +60,6 @@ pub record Behind (more room : ℕ) (left right : Place) : Type 0 where
   pub enough : Room more room (right .steps)
 
 -- the five behind a left part of //, the first with these types as mask
-pub record Below (types room : ℕ) (left : Place) : Type 0 where
+pub record Descending (types room : ℕ) (left : Place) : Type 0 where
   pub mask : types < words
   pub behind : Behind 5 room left left

@@ -5,7 +5,7 @@ ghost use lib.Bits.{bitOr};
 ghost use lib.ListN.{length};
 ghost use Rattle.meaning.specs.declared.Operation.the-variants.{Table, Itself, Join, Closure};
 ghost use Rattle.meaning.specs.Translation.{step, then, descend};
-ghost use Rattle.steps.specs.Writes.{applied, onto, Goes, Room, Masked, Behind, Below};
+ghost use Rattle.steps.specs.Writes.{applied, onto, Goes, Room, Masked, Behind, Descending};
 use meaning::Operation;
 
 // Where the descent is: the kinds there, the query's next byte, and how many steps the program has so far. It goes by value
@@ -102,7 +102,7 @@ fn closed(types: u32, from: Place, out: &mut [u8]) -> Place
 // Behind the left part of //, from whose kinds these types are reachable: TABLE with them; LFP; SELF; UNION of LFP and SELF;
 // JOIN of the left part and that. The kinds are then the left part's and those types.
 pub fn below(types: u32, left: Place, out: &mut [u8]) -> Place
-    requires { ⌜ Below types (length (now out)) left ⌝ }
+    requires { ⌜ Descending types (length (now out)) left ⌝ }
     ensures { λ r. ⌜ Goes (onto Join (descend types)) 5 (bitOr (left .kinds) types) (left .at) (now (out .entry)) (now (out .exit)) (left .steps) r ⌝ }
 {
     let closed = closed(types, left, out);

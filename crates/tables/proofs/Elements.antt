@@ -21,12 +21,12 @@ use Rattle.fields.specs.declared.Cursor.{Cursor}
 use Rattle.fields.specs.declared.Field.{Field}
 use Rattle.fields.specs.declared.Field.the-variants.{Got, Refused}
 use Rattle.fields.proofs.Laws.{taken-passed, handed-passed}
-use Rattle.elements.specs.Kept.{keptIn}
-use Rattle.elements.proofs.Kept.{held-long}
+use Rattle.elements.specs.Packing.{keptIn}
+use Rattle.elements.proofs.Packing.{held-long}
 use Rattle.fields.proofs.Formats.{bind-out, judge-out}
 use Rattle.edg.specs.Edg.{ones, judgeHere, elementJudged, elementsJudged}
 use Rattle.edg.proofs.Numbers.{ones-out}
-use Rattle.tables.specs.Kept.{Climbable}
+use Rattle.tables.specs.Gathered.{Climbable}
 
 -- each number below n came once
 module _ (f : ℕ → ℕ) where

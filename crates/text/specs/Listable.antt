@@ -3,12 +3,6 @@ use Prim.Native.Nat.{ℕ, _≤_, _<_}
 use mathlib.Core.List.{List}
 use lib.ListN.{length}
 use Rattle.meaning.specs.Limits.{words}
-use Rattle.meaning.specs.Documents.{View, view}
-use Rattle.elements.specs.Kept.{keptIn}
-
--- what the first n elements that are kept show
-abbrev pub shown : List ℕ → ℕ → View
-shown kept n = view (keptIn kept n)
 
 -- there are n elements, and the first of the numbers, as many as are counted, are to be listed
 pub record Listable (kept : List ℕ) (n : ℕ) (nodes : List ℕ) (count : ℕ) : Type 0 where

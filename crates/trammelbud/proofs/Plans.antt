@@ -28,23 +28,23 @@ use Rattle.meaning.specs.Records.{programOf, operationsIn}
 use Rattle.meaning.specs.Translation.{translated, stepCount}
 use Rattle.meaning.proofs.Records.{program-holds}
 use Rattle.meaning.proofs.Theorems.{translation-is-right}
-use Rattle.fields.specs.Read.{Read, got, refused, bind, pick}
-use Rattle.elements.specs.Kept.{keptIn}
+use Rattle.fields.specs.Read.{Read, got, refused, bind, pick, mapped}
+use Rattle.elements.specs.Packing.{keptIn, shown}
 use Rattle.query.specs.Qry.{queryFile}
 use Rattle.query.proofs.File.{query-read}
 use Rattle.edg.specs.Edg.{tablesFile}
 use Rattle.rel.specs.Rel.{programFile, programBytes}
 use Rattle.program.specs.declared.ProgramRead.{ProgramRead}
-use Rattle.program.specs.Answers.{programRead}
+use Rattle.program.specs.ProgramRead.{programRead}
 use Rattle.writing.specs.Lent.{Lent, accepted, turnedAway, over, stored, lent, Leaves}
 use Rattle.writing.proofs.Puts.{over-front, over-length}
 use Rattle.writing.proofs.Stored.{stored-there}
-use Rattle.files.specs.Files.{mapped, under, then, tablesThenQuery, Opens, OfElements, OfTablesThenQuery}
+use Rattle.files.specs.Files.{under, followedBy, tablesThenQuery, Opens, OfElements, OfTablesThenQuery}
 use Rattle.files.proofs.Handed.{under-out, then-out, mapped-got, mapped-refused}
-use Rattle.rooms.specs.Ready.{shown, Ready}
+use Rattle.rooms.specs.FitToRun.{FitToRun}
 use Rattle.rooms.specs.Run.{Ran, Gives, performed}
 use Rattle.runner.proofs.Prepared.{ready}
-use Rattle.translator.specs.Ready.{Accepts}
+use Rattle.translator.specs.Translatable.{AcceptedQuery}
 use Rattle.translator.specs.Translate as translate
 use Rattle.translator.specs.Translate.{translatedQuery, translatedUnder}
 use Rattle.translator.proofs.Checked.{file-length, Checked, translated-checked, translated-stored}
@@ -52,13 +52,13 @@ use Rattle.trammelbud.specs.Calls.{Asked, asking, asked, askedOr, chosen
 use Rattle.trammelbud.specs.Parts.{Translated, Planned}
 
 -- A query that was accepted, by how many steps it takes.
-module _ {g : Graph} {qry : List ℕ} (A : Accepts g qry) where
+module _ {g : Graph} {qry : List ℕ} (A : AcceptedQuery g qry) where
   few-steps : stepCount (A .query) ≤ stepLimit → translatedQuery g qry ≡ got (translated g (A .query)) (A .end)
-  unfolding translatedQuery translate.programOf
+  unfolding translatedQuery translate.boundedProgram
   few-steps few = rw (A .reads, le-leb (stepCount (A .query)) stepLimit few)
 
   many-steps : stepLimit < stepCount (A .query) → translatedQuery g qry ≡ refused (record { reason = Steps })
-  unfolding translatedQuery translate.programOf
+  unfolding translatedQuery translate.boundedProgram
   many-steps many = rw (A .reads, lt-leb (stepCount (A .query)) stepLimit many)
 
   by-steps : {P : Type 0} → (stepCount (A .query) ≤ stepLimit → P) → (stepLimit < stepCount (A .query) → P) → P
@@ -140,19 +140,19 @@ module _ (gra edg qry : List ℕ) {o : Outcome} {g : Graph} {kept : List ℕ} {c
     parts : (q : XPath) × (left : ℕ) × (n : ℕ) × (tablesThenQuery gra edg qry ≡ got (g, (keptIn kept count, (q, left))) n) × (queryFile (g .k) qry 0 ≡ got (q, left) n) × OfElements g kept count (g, keptIn kept count)
     parts =
         let (x, n, e, w) = p .held h in
-        let (m, graph, both) = under-out gra (λ g. then (tablesFile elementLimit g edg 0) (queryFile (g .k) qry 0)) e in
+        let (m, graph, both) = under-out gra (λ g. followedBy (tablesFile elementLimit g edg 0) (queryFile (g .k) qry 0)) e in
         let (l, tables, query) = then-out (tablesFile elementLimit (x .0) edg 0) (queryFile (x .0 .k) qry 0) both in
         let held : OfElements g kept count (g, keptIn kept count) = record { graph = refl; elements = refl; legal = w .legal; accepted = w .accepted; whole = w .whole; room = w .room } in
         (x .1 .1 .0, x .1 .1 .1, n, rw (← w .graph, ← w .elements) e, subst (λ g. queryFile (g .k) qry 0 ≡ got (x .1 .1) n) (w .graph) query, held)
 
-    pub plan-accepts : Accepts g qry
+    pub plan-accepts : AcceptedQuery g qry
     plan-accepts =
         let (q, left, n, e, query, w) = parts in
         let (legal, _, same) = query-read (g .k) (λ i. bytes i .fits) query in
         record { graph = w .legal; query = q; legal = legal; file = same; left = left; end = n; reads = query }
 
     pub plan-made : {o′ : Outcome} {program : Program} → Opens (translatedQuery g qry) o′ (Translated g program) → Opens (asked gra edg qry) o′ (Planned kept count program)
-    unfolding asked translatedQuery translate.programOf
+    unfolding asked translatedQuery translate.boundedProgram
     plan-made {o′} {program} t =
         let (q, left, n, e, query, w) = parts in
         let es = keptIn kept count in
@@ -160,7 +160,7 @@ module _ (gra edg qry : List ℕ) {o : Outcome} {g : Graph} {kept : List ℕ} {c
           turned = λ {r} i. rw e (mapped-refused _ (rw query at (t .turned i)));
           held = λ i.
               let (os, m, made, v) = t .held i in
-              let os-is : translate.programOf g q n ≡ got os m = rw query at made in (
+              let os-is : translate.boundedProgram g q n ≡ got os m = rw query at made in (
                 record { view = view es; path = q; program = os },
                 m,
                 rw e (mapped-got _ os-is),
@@ -178,7 +178,7 @@ module _ (gra edg qry : List ℕ) {o : Outcome} {g : Graph} {kept : List ℕ} {c
         picked q n true i = cc
         picked q n false i = cc
 
-        translated-is : (q : XPath) (n : ℕ) {m : ℕ} {os : List Operation} → translate.programOf g q n ≡ got os m → os ≡ translated g q
+        translated-is : (q : XPath) (n : ℕ) {m : ℕ} {os : List Operation} → translate.boundedProgram g q n ≡ got os m → os ≡ translated g q
         translated-is q n i = picked q n (leb (stepCount q) stepLimit) i
 
 -- A plan is carried out.
@@ -202,7 +202,7 @@ module _ (gra edg qry out work : List ℕ) {o : Outcome} {kept : List ℕ} {coun
     list-on l = let (x, n, q, w) = p .held h in rw (q, ← w .right, w .view, w .steps) l
 
 module _ (gra edg qry : List ℕ) {o : Outcome} {kept : List ℕ} {count : ℕ} {program : Program} (p : Opens (asked gra edg qry) o (Planned kept count program)) (h : o ≡ outcome.Accepted) where
-  pub plan-ready : Ready kept count program
+  pub plan-ready : FitToRun kept count program
   plan-ready = let (x, n, q, w) = p .held h in w .ready
 
   pub plan-texts : (v : ℕ) → shown kept count .text v < words

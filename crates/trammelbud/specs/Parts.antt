@@ -14,13 +14,14 @@ use Rattle.meaning.specs.Queries.{selected}
 use Rattle.meaning.specs.Operations.{LegalProgram, answer}
 use Rattle.meaning.specs.Records.{operationsIn}
 use Rattle.writing.specs.Lent.{accepted, turnedAway}
-use Rattle.rooms.specs.Ready.{shown, Ready}
+use Rattle.elements.specs.Packing.{shown}
+use Rattle.rooms.specs.FitToRun.{FitToRun}
 use Rattle.trammelbud.specs.Calls.{Asked}
 
 -- what is answered for a count, by how reading came out
-abbrev pub answered : Outcome → ℕ → Answer
-answered Accepted n = accepted n
-answered (Refused r) n = turnedAway r
+abbrev pub answerFor : Outcome → ℕ → Answer
+answerFor Accepted n = accepted n
+answerFor (Refused r) n = turnedAway r
 
 -- what is counted of an accepted file is small
 pub record Countable (o : Outcome) (n : ℕ) : Type 0 where
@@ -37,5 +38,5 @@ pub record Planned (kept : List ℕ) (count : ℕ) (program : Program) (a : Aske
   pub view : a .view ≡ shown kept count
   pub steps : a .program ≡ operationsIn program
   pub right : answer (a .view) (a .program) ≡ selected (a .view) (a .path)
-  pub ready : Ready kept count program
+  pub ready : FitToRun kept count program
   pub texts : (v : ℕ) → shown kept count .text v < words

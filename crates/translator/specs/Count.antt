@@ -22,7 +22,7 @@ stepsIn zero (c ∷ s) = ownSteps c + stepsIn (fieldsOf c) s
 stepsIn (suc n) (c ∷ s) = stepsIn n s
 
 -- n is the number of steps behind the header, unless there are too many; then it is too many as well. A step has three bytes at most
-pub record Counted (s : List ℕ) (n : ℕ) : Type 0 where
+pub record StepsCounted (s : List ℕ) (n : ℕ) : Type 0 where
   pub most : n ≤ stepsIn 0 (drop 5 s)
   pub all : n ≤ stepLimit → n ≡ stepsIn 0 (drop 5 s)
   pub short : n ≤ stepLimit → length s ≤ 5 + 3 * n

@@ -60,13 +60,13 @@ tokens (suc f) limit g o = do
   p ← token limit g o
   pick (eqb (p .inner) 0) (give (p .elements)) (tokens f limit g p)
 
-unfoldable pub document : ℕ → Graph → Reader (List Element)
-document limit g = do
+unfoldable pub documentRead : ℕ → Graph → Reader (List Element)
+documentRead limit g = do
   header 0x54 0x52 0x45 1
   λ s at. tokens (length s) limit g nothingOpen s at
 
 unfoldable pub documentFile : ℕ → Graph → Reader (List Element)
-documentFile limit g = ended (document limit g)
+documentFile limit g = ended (documentRead limit g)
 
 -- the closes from element a up to its ancestor b, which stays open
 unfoldable pub closes : ℕ → List Element → ℕ → ℕ → List ℕ

@@ -1,6 +1,6 @@
 -- Each turn writes the tokens from one element's open to the next, and the closes come last.
 use Prim.Native.Nat.{_-_, _≤_}
-use Rattle.elements.specs.Kept.{keptIn}
+use Rattle.elements.specs.Packing.{keptIn}
 use Rattle.writing.proofs.Toward.{Toward}
 use Rattle.rebuilder.specs.Rebuild.{tokensIn}
 use Rattle.rebuilder.proofs.Tokens.{tokensAfter, laws}

@@ -2,7 +2,7 @@
 use Prim.Native.Nat.{_-_}
 use Rattle.meaning.specs.Limits.{small, rowBits}
 use Rattle.rows.specs.Rows.{inRow}
-use Rattle.rows.proofs.Answers.{Listing, list-laws}
+use Rattle.rows.proofs.Tallies.{Listing, list-laws}
 use Rattle.rows.proofs.list.Statement.{statement}
 use Rattle.rows.proofs.list.Tie as tie
 

@@ -2,7 +2,7 @@
 use Prim.Native.Nat.{suc, _-_}
 use mathlib.Core.List.{[]}
 use Rattle.fields.specs.Read.{passed}
-use Rattle.elements.specs.Kept.{keptIn}
+use Rattle.elements.specs.Packing.{keptIn}
 use Rattle.edg.specs.Edg.{elementsJudged}
 use Rattle.tables.proofs.Elements.{Judging, judging-laws}
 use Rattle.tables.proofs.judge_elements.Statement.{statement}

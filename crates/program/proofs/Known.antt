@@ -16,7 +16,7 @@ use Rattle.fields.specs.Outcomes.{valueOr}
 use Rattle.fields.proofs.Outcomes.{turned, held}
 use Rattle.program.specs.declared.ProgramRead.{ProgramRead}
 use Rattle.rel.specs.Rel.{programFile}
-use Rattle.program.specs.Answers.{programRead}
+use Rattle.program.specs.ProgramRead.{programRead}
 use Rattle.rel.proofs.File.{program-read}
 
 module _ (k : ℕ) (rel : List ℕ) {y : ProgramRead} (p : y ≡ programRead (programFile k rel 0)) where

@@ -6,17 +6,14 @@ use lib.ListN.{length, getD, set, replicate}
 use Rattle.meaning.specs.declared.Element.{Element}
 use Rattle.meaning.specs.Limits.{small, elementLimit}
 use Rattle.meaning.specs.Documents.{documentNode, node}
-use Rattle.fields.specs.Read.{Read, got, bind, beside}
+use Rattle.fields.specs.Read.{Read, beside}
 use Rattle.fields.specs.declared.Field.{Field}
-use Rattle.elements.specs.Kept.{elementIn, keptIn}
+use Rattle.elements.specs.Packing.{elementIn, keptIn}
 use Rattle.edg.specs.declared.Row.{Row}
 
 -- the bytes of a row: two numbers of nodes and a text number
 abbrev pub rowLength : ℕ
 rowLength = 2 * small .number + 2
-
-unfoldable pub mapped : {A B : Type 0} → (A → B) → Read A → Read B
-mapped f e = bind e (λ a at. got (f a) at)
 
 -- what the rows so far come to: each element in its number's place, how often each number came, and how many rows there were
 pub record Gathered : Type 0 where
@@ -38,9 +35,9 @@ put c r = record {
   total = c .total + 1;
 }
 
-unfoldable pub added : Gathered → List Row → Gathered
-added c [] = c
-added c (r ∷ rs) = added (put c r) rs
+unfoldable pub putAll : Gathered → List Row → Gathered
+putAll c [] = c
+putAll c (r ∷ rs) = putAll (put c r) rs
 
 -- there is a place for each number, none came more often than there were rows, and parents have smaller numbers
 pub record Sound (c : Gathered) : Type 0 where
@@ -51,7 +48,7 @@ pub record Sound (c : Gathered) : Type 0 where
   pub falling : (i : ℕ) → getD (c .elements) i documentNode .parent ≤ i
 
 -- e was read: it is kept, beside where reading goes on, or the refusal was met
-pub record Answers (next : Field) (c : Gathered) (e : Read Gathered) : Type 0 where
+pub record GatheredRead (next : Field) (c : Gathered) (e : Read Gathered) : Type 0 where
   pub sound : Sound c
   pub right : beside next c ≡ e
 

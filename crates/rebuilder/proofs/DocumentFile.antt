@@ -7,14 +7,14 @@ use lib.ListN.{length}
 use borrow.Author.Needs.{needs}
 use Rattle.meaning.specs.declared.Answer.{Answer}
 use Rattle.meaning.specs.declared.Reason.the-variants.{Room}
-use Rattle.elements.specs.Kept.{keptIn}
+use Rattle.elements.specs.Packing.{keptIn}
 use Rattle.fields.specs.Write.{headerOf}
 use Rattle.tre.specs.Tre.{documentBytes}
 use Rattle.writing.specs.Lent.{accepted, turnedAway, stored, Leaves}
 use Rattle.writing.specs.Put.{Put}
 use Rattle.writing.proofs.Puts.{put-then, put-length}
 use Rattle.writing.proofs.Stored.{stored-none, stored-all}
-use Rattle.rebuilder.specs.Rebuild.{documentLength, Held, tokensIn, Writable}
+use Rattle.rebuilder.specs.Rebuild.{documentLength, Held, tokensIn, TokensFit}
 use Rattle.rebuilder.proofs.Closes.{document-length}
 
 module _ {kept : List ℕ} {count : ℕ} (held : Held kept count) where
@@ -25,7 +25,7 @@ module _ {kept : List ℕ} {count : ℕ} (held : Held kept count) where
   no-room out l e = rw e (stored-none (documentBytes (keptIn kept count)) out (omega (arith, file-length)))
 
   module _ {old mid : List ℕ} {next : ℕ} (l : documentLength count ≤ length old) (header : Put 0 (headerOf 0x54 0x52 0x45 1) old mid next) where
-    pub tokens-fit : Writable kept count (tokensIn (keptIn kept count)) next mid
+    pub tokens-fit : TokensFit kept count (tokensIn (keptIn kept count)) next mid
     unfolding documentBytes
     tokens-fit = record { held = held; room = omega (arith, file-length, header .behind, put-length (omega arith) header) }
 

@@ -12,7 +12,7 @@ use Rattle.fields.specs.Read.{got}
 use Rattle.query.specs.Qry.{queryFile, queryBytes}
 
 -- it was accepted under a graph: it is legal, and the bytes are its file
-pub record Accepts (g : Graph) (s : List ℕ) : Type 0 where
+pub record AcceptedQuery (g : Graph) (s : List ℕ) : Type 0 where
   pub graph : LegalGraph g
   pub query : XPath
   pub legal : LegalPath (g .k) query
@@ -22,8 +22,8 @@ pub record Accepts (g : Graph) (s : List ℕ) : Type 0 where
   pub reads : queryFile (g .k) s 0 ≡ got (query, left) end
 
 -- it has n steps, which are not too many, and there is room for them
-pub record Ready (g : Graph) (s : List ℕ) (n room : ℕ) : Type 0 where
-  pub accepted : Accepts g s
+pub record Translatable (g : Graph) (s : List ℕ) (n room : ℕ) : Type 0 where
+  pub accepted : AcceptedQuery g s
   pub count : n ≡ stepCount (accepted .query)
   pub few : n ≤ stepLimit
   pub fits : 6 + 3 * n ≤ room

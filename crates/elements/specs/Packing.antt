@@ -4,6 +4,7 @@ use mathlib.Core.Path.{_≡_}
 use mathlib.Core.List.{List, [], map}
 use lib.ListN.{length, take, replicate}
 use Rattle.meaning.specs.declared.Element.{Element}
+use Rattle.meaning.specs.Documents.{View, view}
 use Rattle.fields.specs.Read.{Read}
 use Rattle.fields.specs.Outcomes.{outcomeOf, valueOr}
 use Rattle.elements.specs.declared.ElementsRead.{ElementsRead}
@@ -19,6 +20,10 @@ blankPlaces n = replicate n 1048576
 -- the first count elements that are kept
 unfoldable pub keptIn : List ℕ → ℕ → List Element
 keptIn kept count = take count (map elementIn kept)
+
+-- what these show
+abbrev pub shown : List ℕ → ℕ → View
+shown kept count = view (keptIn kept count)
 
 -- e was read: its elements are kept, as many as are counted; none, where it was refused
 pub record Keeps (e : Read (List Element)) (kept : List ℕ) (r : ElementsRead) : Type 0 where

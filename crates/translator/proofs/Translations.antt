@@ -20,7 +20,7 @@ use Rattle.meaning.specs.Translation as translation
 use Rattle.meaning.specs.Translation.{translated, stepCount}
 use Rattle.meaning.proofs.Bits.{mask-single}
 use Rattle.meaning.proofs.Counts.{translated-length}
-use Rattle.fields.specs.Read.{got}
+use Rattle.fields.specs.Read.{got, mapped}
 use Rattle.fields.specs.Write.{byteOf, headerOf}
 use Rattle.query.specs.Qry.{queryFile, pathBytes, queryBytes}
 use Rattle.query.proofs.File.{query-read}
@@ -29,13 +29,13 @@ use Rattle.writing.specs.Lent.{Leaves, accepted, turnedAway, over, lent}
 use Rattle.writing.specs.Put.{Put}
 use Rattle.writing.proofs.Puts.{over-nothing, over-more, put-then, put-length}
 use Rattle.writing.proofs.Stored.{stored-none, stored-there}
-use Rattle.files.specs.Files.{mapped, queryUnder, Opens, OfQuery}
+use Rattle.files.specs.Files.{queryUnder, Opens, OfQuery}
 use Rattle.files.proofs.Handed.{under-out}
 use Rattle.steps.specs.declared.Place.{Place}
-use Rattle.translator.specs.Translate.{programOf, translatedQuery, translatedUnder, translation}
-use Rattle.translator.specs.Count.{stepsIn, Counted}
+use Rattle.translator.specs.Translate.{boundedProgram, translatedQuery, translatedUnder, translation}
+use Rattle.translator.specs.Count.{stepsIn, StepsCounted}
 use Rattle.descent.specs.Dues.{path, start, Due, Done}
-use Rattle.translator.specs.Ready.{Accepts, Ready}
+use Rattle.translator.specs.Translatable.{AcceptedQuery, Translatable}
 use Rattle.translator.proofs.Counting.{path-steps}
 use Rattle.translator.proofs.Checked.{file-length, translated-stored}
 
@@ -51,7 +51,7 @@ module _ (gra qry : List ℕ) {o : Outcome} {g : Graph} {nodes : ℕ} (p : Opens
         let (m, graph, file) = under-out gra (λ g. queryFile (g .k) qry 0) e in
         (x .1, n, e ∙ ap (λ g. got (g, x .1) n) (w .graph), subst (λ g. queryFile (g .k) qry 0 ≡ got (x .1) n) (w .graph) file)
 
-    pub query-accepted : ((i : ℕ) → Fits w8 (getD qry i 0)) → Accepts g qry
+    pub query-accepted : ((i : ℕ) → Fits w8 (getD qry i 0)) → AcceptedQuery g qry
     query-accepted bytes =
         let (_, _, _, w) = p .held h in
         let (x, n, _, e) = read-under in
@@ -63,7 +63,7 @@ module _ (gra qry : List ℕ) {o : Outcome} {g : Graph} {nodes : ℕ} (p : Opens
     query-on out l = let (x, n, under, file) = read-under in rw under (rw file at l)
 
 -- An accepted query.
-module _ {g : Graph} {s : List ℕ} (A : Accepts g s) where
+module _ {g : Graph} {s : List ℕ} (A : AcceptedQuery g s) where
   behind-header : drop 5 s ≡ pathBytes (A .query) ++ []
   unfolding queryBytes
   behind-header = ap (drop 5) (A .file) ∙ sym (append-nil (pathBytes (A .query)))
@@ -72,9 +72,9 @@ module _ {g : Graph} {s : List ℕ} (A : Accepts g s) where
   unfolding stepCount stepsIn
   count-is = ap (stepsIn 0) behind-header ∙ path-steps (A .query) [] ∙ omega arith
 
-  module _ {n : ℕ} (c : Counted s n) {out : List ℕ} {a : Answer} where
+  module _ {n : ℕ} (c : StepsCounted s n) {out : List ℕ} {a : Answer} where
     pub too-many : stepLimit < n → a ≡ turnedAway (record { reason = Steps }) → Leaves (translatedUnder g s out) a out
-    unfolding translatedUnder translatedQuery programOf mapped lent
+    unfolding translatedUnder translatedQuery boundedProgram mapped lent
     too-many l e = rw (e, A .reads, lt-leb (stepCount (A .query)) stepLimit (omega (arith, c .most, count-is)))
 
     pub no-room : n ≤ stepLimit → length out < 6 + 3 * n → a ≡ turnedAway (record { reason = Room }) → Leaves (translatedUnder g s out) a out
@@ -83,10 +83,10 @@ module _ {g : Graph} {s : List ℕ} (A : Accepts g s) where
         translated-stored g s out (A .reads) (omega (arith, c .all l, count-is))
         ∙ stored-none (programBytes (translated g p)) out (omega (arith, c .all l, count-is, file-length g p)) ∙ rw e
 
-  pub ready : {n k m : ℕ} → k ≡ n → Counted s n → n ≤ stepLimit → 6 + 3 * n ≤ m → Ready g s k m
+  pub ready : {n k m : ℕ} → k ≡ n → StepsCounted s n → n ≤ stepLimit → 6 + 3 * n ≤ m → Translatable g s k m
   ready e c l f = rw e (record { accepted = A; count = c .all l ∙ count-is; few = l; fits = f; short = c .short l })
 
-module _ {g : Graph} {s old x y : List ℕ} {n i j : ℕ} (R : Ready g s n (length old))
+module _ {g : Graph} {s old x y : List ℕ} {n i j : ℕ} (R : Translatable g s n (length old))
     (p : Put 0 (headerOf 0x52 0x45 0x4C 1) old x i) (q : Put i (byteOf n) x y j) where
   headed : Put 0 (headerOf 0x52 0x45 0x4C 1 ++ byteOf n) old y j
   headed = put-then (omega arith) p q

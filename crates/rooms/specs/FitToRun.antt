@@ -6,14 +6,10 @@ use mathlib.Core.List.{List}
 use lib.ListN.{length}
 use Rattle.meaning.specs.declared.Program.{Program}
 use Rattle.meaning.specs.Limits.{types, elementLimit, stepLimit}
-use Rattle.meaning.specs.Documents.{View, isElement, view}
+use Rattle.meaning.specs.Documents.{isElement}
 use Rattle.meaning.specs.Operations.{LegalProgram}
 use Rattle.meaning.specs.Records.{operationsIn}
-use Rattle.elements.specs.Kept.{keptIn}
-
--- what the first count elements that are kept show
-abbrev pub shown : List ℕ → ℕ → View
-shown kept count = view (keptIn kept count)
+use Rattle.elements.specs.Packing.{shown}
 
 -- so many are kept, a parent is a node, and an element's kind a type
 pub record Nodes (kept : List ℕ) (count : ℕ) : Type 0 where
@@ -23,7 +19,7 @@ pub record Nodes (kept : List ℕ) (count : ℕ) : Type 0 where
   pub kinds : (w : ℕ) → isElement (shown kept count) w ≡ true → shown kept count .kind w < types
 
 -- the program holds as many steps as it counts, and they are legal
-pub record Ready (kept : List ℕ) (count : ℕ) (program : Program) : Type 0 where
+pub record FitToRun (kept : List ℕ) (count : ℕ) (program : Program) : Type 0 where
   pub nodes : Nodes kept count
   pub whole : length (operationsIn program) ≡ program .count
   pub k : ℕ

@@ -8,7 +8,7 @@ use Rattle.meaning.specs.declared.Graph.{Graph}
 use Rattle.meaning.specs.declared.Outcome.{Outcome}
 use Rattle.meaning.specs.declared.Outcome.the-variants.{Accepted, Refused}
 use Rattle.meaning.specs.declared.Refusal.{Refusal}
-use Rattle.elements.specs.Kept.{keptIn}
+use Rattle.elements.specs.Packing.{keptIn}
 use Rattle.tre.specs.Tre.{documentBytes}
 use Rattle.edg.specs.Edg.{tablesBytes}
 use Rattle.writing.specs.Lent.{turnedAway, stored, lent, Leaves}

@@ -22,7 +22,7 @@ use Rattle.rel.specs.Rel.{programFile}
 use Rattle.files.specs.Files.{programUnder, Opens, OfProgram}
 use Rattle.files.proofs.Handed.{under-got, mapped-got, mapped-refused}
 use Rattle.masks.specs.declared.Announced.{Announced}
-use Rattle.masks.specs.Pairs.{relOf, Legal}
+use Rattle.masks.specs.Pairs.{relOf, LegalUnder}
 use Rattle.masks.specs.Announcement.{announcement}
 use Rattle.masks.proofs.Announcement.{nothing-on, sets-made, blank, announcement-shown}
 use Rattle.announce.specs.declared.Checked.{Checked}
@@ -43,7 +43,7 @@ module _ (gra rel : List ℕ) {o : Outcome} {g : Graph} {program : Program} (p :
     unfolding checkOf checked
     check-all e = let (x, n, q, w) = p .held h in sym (ap checked (mapped-got _ q) ∙ rw (w .graph, w .steps, e))
 
-    pub check-legal : Legal g program
+    pub check-legal : LegalUnder g program
     check-legal = let (x, n, q, w) = p .held h in record { graph = w .legal; program = w .lawful; count = rw (← w .whole) (w .lawful .most-steps) }
 
 -- the check's answer shows what is announced for each step, and nothing past the end

@@ -11,7 +11,7 @@ use Rattle.meaning.specs.declared.Graph.{Graph}
 use Rattle.meaning.specs.declared.Reason.the-variants.{Room}
 use Rattle.meaning.specs.Graphs.{LegalGraph}
 use Rattle.meaning.specs.Documents.{Accepted}
-use Rattle.elements.specs.Kept.{keptIn}
+use Rattle.elements.specs.Packing.{keptIn}
 use Rattle.fields.specs.Write.{byteOf, headerOf}
 use Rattle.edg.specs.Edg.{rowsOf, rowsBytes, tableBytes, tablesOf, tablesBytes}
 use Rattle.edg.proofs.Rows.{rows-length}
@@ -20,7 +20,7 @@ use Rattle.writing.specs.Lent.{accepted, turnedAway, stored, Leaves}
 use Rattle.writing.specs.Put.{Put}
 use Rattle.writing.proofs.Puts.{put-then, put-length}
 use Rattle.writing.proofs.Stored.{stored-none, stored-all}
-use Rattle.shredder.specs.Shred.{tablesLength, HeldUnder, Writable}
+use Rattle.shredder.specs.Shred.{tablesLength, HeldUnder, RowsFit}
 
 -- a byte for each type, and four for each row
 tabled-length : (es : List Element) (t n : ℕ) → length (tablesOf es t n) ≡ n + 4 * length (tabled es t n)
@@ -42,7 +42,7 @@ module _ {g : Graph} {kept : List ℕ} {count k : ℕ} (held : HeldUnder g kept 
   no-room out l e = rw e (stored-none (tablesBytes g (keptIn kept count)) out (omega (arith, file-length)))
 
   module _ {old x y : List ℕ} {a b : ℕ} (l : tablesLength k count ≤ length old) (header : Put 0 (headerOf 0x45 0x44 0x47 1) old x a) (counted : Put a (byteOf (g .k)) x y b) where
-    pub tables-fit : Writable kept count (tablesOf (keptIn kept count) 0 (g .k)) b y
+    pub tables-fit : RowsFit kept count (tablesOf (keptIn kept count) 0 (g .k)) b y
     unfolding tablesBytes
     tables-fit =
         let same = put-length (omega arith) header in

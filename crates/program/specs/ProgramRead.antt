@@ -22,16 +22,16 @@ abbrev pub refusedBy : Field → ProgramRead
 refusedBy f = record { outcome = outcomeOf (readOf f); program = programOf [] }
 
 -- the numbers that x has room for
-abbrev pub room : Layout → ℕ
-room Zeros = 256
-room Single = 256
-room Pair = 256
-room Number = words
-room Mask = words
+abbrev pub xLimit : Layout → ℕ
+xLimit Zeros = 256
+xLimit Single = 256
+xLimit Pair = 256
+xLimit Number = words
+xLimit Mask = words
 
 -- an operation's code, and x and y as its layout may have them
-pub record Coded (code x y : ℕ) : Type 0 where
+pub record FitsLayout (code x y : ℕ) : Type 0 where
   pub first : 1 ≤ code
   pub last : code ≤ length layouts
-  pub x-room : x < room (layoutOf code)
+  pub x-room : x < xLimit (layoutOf code)
   pub y-room : y < 256
