@@ -14,16 +14,17 @@ use Rattle.meaning.specs.Limits.{kinds, stepLimit}
 use Rattle.meaning.specs.Relations.{nothing, at}
 use Rattle.meaning.specs.Graphs.{LegalGraph}
 use Rattle.meaning.specs.Announcements.{announced}
-use Rattle.meaning.specs.Records.{operationsIn}
+use Rattle.meaning.specs.inside.Records.{operationsIn}
 use Rattle.meaning.specs.Refused.{numberOf}
 use Rattle.fields.specs.Read.{got, refused}
 use Rattle.graph.specs.Gra.{graphFile}
 use Rattle.rel.specs.Rel.{programFile}
-use Rattle.files.specs.Files.{programUnder, Opens, OfProgram}
+use Rattle.files.specs.inside.Opens.{Opens, OfProgram}
+use Rattle.files.specs.Files.{programUnder}
 use Rattle.files.proofs.Handed.{under-got, mapped-got, mapped-refused}
 use Rattle.masks.specs.declared.Announced.{Announced}
-use Rattle.masks.specs.Pairs.{relOf, LegalUnder}
-use Rattle.masks.specs.Announcement.{announcement}
+use Rattle.masks.specs.inside.Pairs.{LegalUnder}
+use Rattle.masks.specs.Announcement.{announcement, relOf}
 use Rattle.masks.proofs.Announcement.{nothing-on, sets-made, blank, announcement-shown}
 use Rattle.announce.specs.declared.Checked.{Checked}
 use Rattle.announce.specs.Check.{checked, checkOf}

@@ -8,14 +8,15 @@ use Rattle.meaning.specs.declared.Graph.{Graph}
 use Rattle.meaning.specs.declared.Outcome.{Outcome}
 use Rattle.meaning.specs.declared.Outcome.the-variants.{Accepted, Refused}
 use Rattle.meaning.specs.declared.Refusal.{Refusal}
-use Rattle.elements.specs.Packing.{keptIn}
+use Rattle.elements.specs.inside.Packing.{keptIn}
 use Rattle.tre.specs.Tre.{documentBytes}
 use Rattle.edg.specs.Edg.{tablesBytes}
 use Rattle.writing.specs.Lent.{turnedAway, stored, lent, Leaves}
-use Rattle.files.specs.Files.{documentUnder, tablesUnder, Opens, OfElements}
+use Rattle.files.specs.inside.Opens.{Opens, OfElements}
+use Rattle.files.specs.Files.{documentUnder, tablesUnder}
 use Rattle.files.proofs.Handed.{mapped-got, mapped-refused}
-use Rattle.shredder.specs.Shred.{HeldUnder}
-use Rattle.rebuilder.specs.Rebuild.{Held}
+use Rattle.shredder.specs.inside.RowsFit.{HeldUnder}
+use Rattle.rebuilder.specs.inside.TokensFit.{Held}
 use Rattle.convert.specs.Convert.{shredded, rebuilt}
 
 module _ {o : Outcome} {g : Graph} {kept : List ℕ} {count : ℕ} (out : List ℕ) {a : Answer} where

@@ -29,7 +29,7 @@ use Rattle.convert.specs.RoundTrips.{DocumentReturns, TablesReturn}
 use Rattle.shredder.specs.Shred.{tablesLength}
 use Rattle.rebuilder.specs.Rebuild.{documentLength}
 use Rattle.announce.specs.declared.Checked.{Checked}
-use Rattle.masks.specs.Pairs.{relOf}
+use Rattle.masks.specs.Announcement.{relOf}
 use Rattle.announce.specs.Check.{checkOf}
 use Rattle.rooms.specs.Layout.{joined}
 use Rattle.rooms.specs.Run.{Ran}

@@ -14,14 +14,14 @@ use Rattle.meaning.proofs.Runs.{longer-length}
 use Rattle.meaning.proofs.Counts.{path-length, path-longer, qualifier-length, qualifier-longer}
 use Rattle.steps.specs.declared.Place.{Place}
 use Rattle.steps.specs.declared.Operator.{Operator}
-use Rattle.steps.specs.Writes.{applied, onto, Goes, Room, Behind}
+use Rattle.steps.specs.inside.Writes.{applied, onto, Goes, Room, Behind}
 use Rattle.steps.proofs.Laws.{onto-goes, after-goes, goes-as, room-less}
 use Rattle.descent.specs.declared.rows.Leaf.{Leaf}
 use Rattle.descent.specs.declared.rows.Ending.{Ending}
 use Rattle.descent.specs.declared.rows.Second.{Second}
 use Rattle.descent.specs.declared.rows.Row.{Row}
-use Rattle.descent.specs.Rows.{rowOf, LeafDue, Leads, endingCount, Finishes, betweenSteps, secondKinds, Between, Begins, led, Ended, Combines}
-use Rattle.descent.specs.Dues.{Part, path, qualifier, bytesOf, adds, weight, kindsBehind, Due, Done}
+use Rattle.descent.specs.inside.Rows.{rowOf, LeafDue, Leads, endingCount, Finishes, betweenSteps, secondKinds, Between, Begins, led, Ended, Combines}
+use Rattle.descent.specs.inside.Dues.{Part, path, qualifier, bytesOf, adds, weight, kindsBehind, Due, Done}
 use Rattle.descent.proofs.KindMasks.{out-small, or-reachable-small}
 use Rattle.descent.proofs.Facts.{Fact, part-coded}
 

@@ -13,13 +13,13 @@ use Rattle.meaning.specs.Translation as translation
 use Rattle.meaning.specs.Translation.{step, then, thenBoth}
 use Rattle.query.specs.Qry.{pathBytes, qualifierBytes}
 use Rattle.steps.specs.declared.Operator.{Operator}
-use Rattle.steps.specs.Writes.{applied, onto}
+use Rattle.steps.specs.inside.Writes.{applied, onto}
 use Rattle.descent.specs.declared.rows.Leaf.{Leaf}
 use Rattle.descent.specs.declared.rows.Ending.{Ending}
 use Rattle.descent.specs.declared.rows.Second.{Second}
 use Rattle.descent.specs.declared.rows.Row.{Row}
-use Rattle.descent.specs.Rows.{rowOf, leafEnd, leafKinds, leafStep, Typed, endingSteps, endingCount, betweenSteps, betweenCount, secondKinds, led}
-use Rattle.descent.specs.Dues.{Part, path, qualifier, bytesOf, adds, weight, kindsBehind}
+use Rattle.descent.specs.inside.Rows.{rowOf, leafEnd, leafKinds, leafStep, Typed, endingSteps, endingCount, betweenSteps, betweenCount, secondKinds, led}
+use Rattle.descent.specs.inside.Dues.{Part, path, qualifier, bytesOf, adds, weight, kindsBehind}
 
 -- no part: its fields are all that follows
 pub record Alone (leaf : Leaf) (g : Graph) (p : Part (g .k)) (more : List ℕ) : Type 0 where

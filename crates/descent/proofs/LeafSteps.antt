@@ -12,9 +12,9 @@ use Rattle.meaning.specs.Limits.{types, kinds, words}
 use Rattle.meaning.specs.Graphs.{childKind}
 use Rattle.meaning.specs.Translation.{image, only, step}
 use Rattle.steps.specs.declared.Place.{Place}
-use Rattle.steps.specs.Writes.{Goes}
+use Rattle.steps.specs.inside.Writes.{Goes}
 use Rattle.descent.specs.declared.rows.Leaf.{Leaf}
-use Rattle.descent.specs.Rows.{LeafDue, Leads}
+use Rattle.descent.specs.inside.Rows.{LeafDue, Leads}
 use Rattle.descent.proofs.KindMasks.{image-small, children-words, only-words, only-and}
 
 first-at : (s : List ℕ) (at : ℕ) → getD (drop at s) 0 0 ≡ getD s at 0

@@ -11,11 +11,11 @@ use Rattle.meaning.specs.Graphs.{reachable}
 use Rattle.meaning.specs.Translation.{image, orReachable, step, descend}
 use Rattle.steps.specs.declared.Place.{Place}
 use Rattle.steps.specs.declared.Operator.{Operator}
-use Rattle.steps.specs.Writes.{applied, onto, Goes, Behind, Descending}
+use Rattle.steps.specs.inside.Writes.{applied, onto, Goes, Behind, Descending}
 use Rattle.steps.proofs.Laws.{stays, onto-goes, goes-as}
 use Rattle.descent.specs.declared.rows.Ending.{Ending}
 use Rattle.descent.specs.declared.rows.Second.{Second}
-use Rattle.descent.specs.Rows.{endingCount, led, Between, Finishes, Begins}
+use Rattle.descent.specs.inside.Rows.{endingCount, led, Between, Finishes, Begins}
 use Rattle.descent.proofs.KindMasks.{image-small, reachable-words, together-or}
 
 -- Behind one part.

@@ -5,7 +5,7 @@ ghost use lib.ListN.{length};
 ghost use Rattle.meaning.specs.Limits.{types, kinds};
 ghost use Rattle.meaning.specs.Graphs.{childKind};
 ghost use Rattle.meaning.specs.Translation.{image, only};
-ghost use Rattle.descent.specs.Rows.{graphOf, LeafDue, Leads};
+ghost use Rattle.descent.specs.inside.Rows.{graphOf, LeafDue, Leads};
 use crate::rows::Leaf;
 use meaning::Graph;
 use meaning::Operation;

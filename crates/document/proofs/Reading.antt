@@ -17,17 +17,17 @@ use Rattle.meaning.specs.Limits.{elementLimit}
 use Rattle.fields.specs.declared.Cursor.{Cursor}
 use Rattle.fields.specs.declared.Field.{Field}
 use Rattle.fields.specs.declared.Field.the-variants.{Got, Refused}
-use Rattle.fields.specs.Read.{Read, got, refused, bind, pick, give, readOf, passed, beside, header, end}
-use Rattle.fields.specs.Outcomes.{outcomeOf}
+use Rattle.fields.specs.Read.{Read, got, refused, bind, pick, give, header, end}
+use Rattle.fields.specs.inside.Outcomes.{outcomeOf, readOf, passed, beside}
 use Rattle.fields.proofs.Laws.{taken, handed, taken-passed, handed-passed, beside-got}
 use Rattle.elements.specs.declared.ElementsRead.{ElementsRead}
-use Rattle.elements.specs.Packing.{keptIn, Keeps}
+use Rattle.elements.specs.inside.Packing.{keptIn, Keeps}
 use Rattle.elements.proofs.Packing.{keeps-none, keeps-all}
 use Rattle.tre.specs.Tre.{nothingOpen, token, tokens, documentRead, documentFile}
 use Rattle.tre.proofs.Turns.{token-moves, tokens-turn}
 use Rattle.document.specs.declared.Standing.{Standing}
 use Rattle.document.specs.declared.Turn.{Turn}
-use Rattle.document.specs.States.{openIn, HasRoom, OpenRead}
+use Rattle.document.specs.inside.States.{openIn, HasRoom, OpenRead}
 
 -- What is to be read is what the tokens from here on come to.
 pub record Reaches (w : Read (List Element)) (g : Graph) (s kept : List ℕ) (st : Standing) (at : ℕ) : Type 0 where

@@ -23,15 +23,16 @@ use Rattle.meaning.specs.Documents.{node}
 use Rattle.fields.specs.declared.Cursor.{Cursor}
 use Rattle.fields.specs.declared.Field.{Field}
 use Rattle.fields.specs.declared.Field.the-variants.{Got, Refused}
-use Rattle.fields.specs.Read.{Read, Reader, got, refused, bind, answered, refusalOf, judge, judged, readOf, byte, byteBelow, word}
+use Rattle.fields.specs.inside.Outcomes.{readOf, answered}
+use Rattle.fields.specs.Read.{Read, Reader, got, refused, bind, refusalOf, judge, judged, byte, byteBelow, word}
 use Rattle.fields.proofs.Laws.{taken, handed, judged-ended, judged-told}
 use Rattle.fields.proofs.Formats.{bind-out, refused-out}
-use Rattle.elements.specs.Packing.{elementIn, keptIn}
+use Rattle.elements.specs.inside.Packing.{elementIn, keptIn}
 use Rattle.elements.proofs.Packing.{map-set, held-long}
 use Rattle.tre.specs.Tre.{Open, pushed, popped, code, newType, opened, token}
 use Rattle.document.specs.declared.Standing.{Standing}
 use Rattle.document.specs.declared.Turn.{Turn}
-use Rattle.document.specs.States.{openIn, HasRoom, OpenRead}
+use Rattle.document.specs.inside.States.{openIn, HasRoom, OpenRead}
 
 -- what is answered for a field, by how its test came out
 told : (b : Bool) (x : Field) (r : Refusal) {y : Field} {e : Read ℕ} → y ≡ answered b x r → (b ≡ true → readOf x ≡ e) → (b ≡ false → refused r ≡ e) → readOf y ≡ e

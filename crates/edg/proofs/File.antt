@@ -24,7 +24,8 @@ use Rattle.fields.specs.Read.{got, pick}
 use Rattle.fields.specs.Write.{Bytes, byteOf, headerOf}
 use Rattle.fields.proofs.Formats.{Reads, Accepts, Takes, reads-bind, reads-last, takes-bind, takes-weaken, accepts-bind, accepts-give, accepts-ended, reads-give, reads-judge, reads-judged, reads-byte, reads-header, reads-ended, takes-judge, takes-judged, takes-byte, takes-first}
 use Rattle.edg.specs.declared.Row.{Row}
-use Rattle.edg.specs.Edg.{tablesRead, head, rowsFile, count, times, ones, elementsOf, judgeHere, elementJudged, elementsJudged, whole, tablesFile, rowsOf, tableBytes, tablesOf, tablesBytes, GoodRow}
+use Rattle.edg.specs.inside.GoodRow.{GoodRow}
+use Rattle.edg.specs.Edg.{tablesRead, head, rowsFile, count, times, ones, elementsOf, judgeHere, elementJudged, elementsJudged, whole, tablesFile, rowsOf, tableBytes, tablesOf, tablesBytes}
 use Rattle.edg.proofs.Lists.{either, All, all-none, all-append, all-split, all-map, all-with, count-append, count-some}
 use Rattle.edg.proofs.Numbers.{Once, ones-out, ones-in, times-none, once-count, once-all, elements-long, elements-at, elements-keep}
 use Rattle.edg.proofs.Tabling.{Stands, rows-same, rows-stand, rows-ascend, rows-times}

@@ -12,7 +12,8 @@ use Rattle.meaning.specs.Limits.{words}
 use Rattle.meaning.proofs.Tests.{and-in, and-left, and-right}
 use Rattle.fields.proofs.Formats.{Reads, Accepts, Takes, reads-bind, reads-last, takes-bind, takes-weaken, accepts-bind, accepts-give, reads-give, reads-judged, reads-byte, reads-word, takes-judged, takes-byte, takes-word}
 use Rattle.edg.specs.declared.Row.{Row}
-use Rattle.edg.specs.Edg.{rowRule, rowFields, rowRead, rowsRead, tablesRead, rowBytes, rowsBytes, tableBytes, GoodRow}
+use Rattle.edg.specs.inside.GoodRow.{GoodRow}
+use Rattle.edg.specs.Edg.{rowRule, rowFields, rowRead, rowsRead, tablesRead, rowBytes, rowsBytes, tableBytes}
 use Rattle.edg.proofs.Lists.{All, all-none, all-more, all-append, all-map}
 use Rattle.edg.proofs.Tabling.{Ascending, ascending-none, ascending-more}
 

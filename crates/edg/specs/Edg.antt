@@ -1,5 +1,5 @@
 -- EDG: k; then per type in order: row count, rows of from, to, text number, `to` ascending.
-use Prim.Native.Nat.{ℕ, zero, suc, _+_, _-_, _≤_, _<_}
+use Prim.Native.Nat.{ℕ, zero, suc, _+_, _-_}
 use mathlib.Core.Bool.{Bool, true, _&&_}
 use mathlib.Core.List.{List, [], _∷_, _++_}
 use lib.Dec.{eqb, ltb, leb}
@@ -139,9 +139,3 @@ tablesOf es t (suc n) = tableBytes (rowsOf t 1 es) ++ tablesOf es (suc t) n
 -- the tables file of a document
 unfoldable pub tablesBytes : Graph → List Element → List ℕ
 tablesBytes g es = headerOf 0x45 0x44 0x47 1 ++ byteOf (g .k) ++ tablesOf es 0 (g .k)
-
--- a row that may stand in a table, as far as the row alone shows
-pub record GoodRow (limit : ℕ) (r : Row) : Type 0 where
-  pub positive : 1 ≤ r .number
-  pub most : r .number ≤ limit
-  pub falling : r .element .parent < r .number

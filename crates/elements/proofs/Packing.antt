@@ -12,12 +12,12 @@ use Rattle.meaning.specs.declared.Outcome.{Outcome}
 use Rattle.meaning.specs.declared.Outcome.the-variants.{Accepted}
 use Rattle.meaning.specs.declared.Refusal.{Refusal}
 use Rattle.meaning.proofs.Records.{at-any}
-use Rattle.fields.specs.Outcomes.{outcomeOf}
-use Rattle.fields.specs.Read.{Read, got, refused, readOf}
+use Rattle.fields.specs.inside.Outcomes.{outcomeOf, readOf}
+use Rattle.fields.specs.Read.{Read, got, refused}
 use Rattle.fields.specs.declared.Field.{Field}
 use Rattle.fields.specs.declared.Field.the-variants.{Refused}
 use Rattle.elements.specs.declared.ElementsRead.{ElementsRead}
-use Rattle.elements.specs.Packing.{elementIn, keptIn, Keeps}
+use Rattle.elements.specs.inside.Packing.{elementIn, keptIn, Keeps}
 
 pub packed-is : (e : Element) {p k x : ℕ} → p ≡ e .parent → k ≡ e .kind → x ≡ e .text → e .parent < 256 → e .kind < 256 → e .text < 65536 → elementIn ((p * 256 + k) * 65536 + x) ≡ e
 unfolding elementIn

@@ -1,2 +1,2 @@
 -- The element record.
-pub mod Packing
+pub mod inside

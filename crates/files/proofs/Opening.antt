@@ -17,16 +17,16 @@ use Rattle.meaning.specs.Limits.{elementLimit, queryLimit}
 use Rattle.meaning.specs.Graphs.{LegalGraph}
 use Rattle.meaning.specs.Documents.{Accepted}
 use Rattle.meaning.specs.Queries.{XPath}
-use Rattle.meaning.specs.Records.{operationsIn}
+use Rattle.meaning.specs.inside.Records.{operationsIn}
 use Rattle.fields.specs.Read.{Read, got, refused, bind}
-use Rattle.fields.specs.Outcomes.{outcomeOf, valueOr}
+use Rattle.fields.specs.inside.Outcomes.{outcomeOf, valueOr}
 use Rattle.fields.proofs.Outcomes.{turned, held}
 use Rattle.elements.specs.declared.ElementsRead.{ElementsRead}
-use Rattle.elements.specs.Packing.{keptIn, Keeps}
+use Rattle.elements.specs.inside.Packing.{keptIn, Keeps}
 use Rattle.elements.proofs.Packing.{held-long}
 use Rattle.graph.specs.declared.GraphRead.{GraphRead}
 use Rattle.graph.specs.Gra.{graphFile}
-use Rattle.graph.specs.GraphRead.{graphRead}
+use Rattle.graph.specs.inside.GraphRead.{graphRead}
 use Rattle.graph.proofs.Known.{graph-turned, graph-held, graph-legal}
 use Rattle.tre.specs.Tre.{documentFile}
 use Rattle.tre.proofs.File.{document-read}
@@ -34,13 +34,14 @@ use Rattle.edg.specs.Edg.{tablesFile}
 use Rattle.edg.proofs.File.{tables-read}
 use Rattle.query.specs.declared.QueryRead.{QueryRead}
 use Rattle.query.specs.Qry.{queryFile}
-use Rattle.query.specs.PartsRead.{queryRead}
+use Rattle.query.specs.inside.PartsRead.{queryRead}
 use Rattle.rel.specs.Rel.{programFile}
 use Rattle.program.specs.declared.ProgramRead.{ProgramRead}
-use Rattle.program.specs.ProgramRead.{programRead}
+use Rattle.program.specs.inside.ProgramRead.{programRead}
 use Rattle.program.proofs.Known.{program-turned, program-held, program-count, program-legal}
 use Rattle.files.proofs.Handed.{under-out}
-use Rattle.files.specs.Files.{under, followedBy, documentUnder, tablesUnder, queryUnder, programUnder, tablesThenQuery, tablesThenProgram, Opens, OfElements, OfQuery, OfProgram, OfTablesThenQuery, OfTablesThenProgram}
+use Rattle.files.specs.inside.Opens.{Opens, OfElements, OfQuery, OfProgram, OfTablesThenQuery, OfTablesThenProgram}
+use Rattle.files.specs.Files.{under, followedBy, documentUnder, tablesUnder, queryUnder, programUnder, tablesThenQuery, tablesThenProgram}
 
 -- a refusal that is handed on
 away : {A : Type 0} {e : Read A} {r : Refusal} (P : A → Type 0) → e ≡ refused r → Opens e (outcome.Refused r) P

@@ -12,7 +12,7 @@ use Rattle.fields.specs.Read.{got, refused}
 use Rattle.fields.proofs.Outcomes.{turned, held}
 use Rattle.graph.specs.declared.GraphRead.{GraphRead}
 use Rattle.graph.specs.Gra.{graphFile}
-use Rattle.graph.specs.GraphRead.{noGraph, graphRead}
+use Rattle.graph.specs.inside.GraphRead.{noGraph, graphRead}
 use Rattle.graph.proofs.File.{graph-read}
 
 module _ (gra : List ℕ) {x : GraphRead} (p : x ≡ graphRead (graphFile gra 0)) where

@@ -16,11 +16,11 @@ use Rattle.meaning.specs.Limits.{kinds, stepLimit}
 use Rattle.meaning.specs.Relations.{Relation, nothing, at}
 use Rattle.meaning.specs.Operations.{LegalOperation, results}
 use Rattle.meaning.specs.Announcements.{pairs, announced}
-use Rattle.meaning.specs.Records.{operationsIn}
+use Rattle.meaning.specs.inside.Records.{operationsIn}
 use Rattle.meaning.proofs.Records.{operation-at}
 use Rattle.masks.specs.declared.Announced.{Announced}
-use Rattle.masks.specs.Pairs.{relOf, operandsOf, LegalUnder}
-use Rattle.masks.specs.Announcement.{announcement}
+use Rattle.masks.specs.inside.Pairs.{operandsOf, LegalUnder}
+use Rattle.masks.specs.Announcement.{announcement, relOf}
 use Rattle.masks.proofs.Announcement.{nothing-on, sets-made, blank, announcement-shown, announcement-more}
 
 pub length-mapped : {A B : Type 0} (f : A → B) (l : List A) (n : ℕ) → length (map f l) ≡ n → length l ≡ n

@@ -9,7 +9,7 @@ use Rattle.meaning.specs.declared.Operation.{Operation}
 use Rattle.meaning.specs.declared.Operation.the-variants.{Itself}
 use Rattle.meaning.specs.declared.Program.{Program}
 use Rattle.meaning.specs.declared.Step.{Step}
-use Rattle.meaning.specs.Records.{blankStep, stepsFrom, programOf, operationsIn}
+use Rattle.meaning.specs.inside.Records.{blankStep, stepsFrom, programOf, operationsIn}
 
 -- what stands at a place of a list does not depend on what would stand past its end
 pub at-any : {A : Type 0} (xs : List A) (i : ℕ) (d e : A) → i < length xs → getD xs i d ≡ getD xs i e

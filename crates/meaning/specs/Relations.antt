@@ -14,10 +14,6 @@ Relation = ℕ → ℕ → Bool
 abbrev pub nothing : Relation
 nothing v w = false
 
--- each number that passes, to itself
-unfoldable pub diagonal : (ℕ → Bool) → Relation
-diagonal f v w = eqb v w && f v
-
 -- some u below n with (v, u) in r and (u, w) in s
 unfoldable pub join : ℕ → Relation → Relation → Relation
 join n r s v w = any n (λ u. r v u && s u w)

@@ -9,14 +9,14 @@ use Rattle.meaning.specs.declared.Outcome.the-variants.{Accepted, Refused}
 use Rattle.meaning.specs.declared.Refusal.{Refusal}
 use Rattle.meaning.specs.Limits.{stepLimit}
 use Rattle.meaning.specs.Operations.{LegalProgram}
-use Rattle.meaning.specs.Records.{programOf, operationsIn}
+use Rattle.meaning.specs.inside.Records.{programOf, operationsIn}
 use Rattle.meaning.proofs.Records.{program-holds}
 use Rattle.fields.specs.Read.{got, refused}
-use Rattle.fields.specs.Outcomes.{valueOr}
+use Rattle.fields.specs.inside.Outcomes.{valueOr}
 use Rattle.fields.proofs.Outcomes.{turned, held}
 use Rattle.program.specs.declared.ProgramRead.{ProgramRead}
 use Rattle.rel.specs.Rel.{programFile}
-use Rattle.program.specs.ProgramRead.{programRead}
+use Rattle.program.specs.inside.ProgramRead.{programRead}
 use Rattle.rel.proofs.File.{program-read}
 
 module _ (k : ℕ) (rel : List ℕ) {y : ProgramRead} (p : y ≡ programRead (programFile k rel 0)) where

@@ -20,13 +20,14 @@ use Rattle.meaning.specs.Limits.{words}
 use Rattle.fields.specs.declared.Cursor.{Cursor}
 use Rattle.fields.specs.declared.Field.{Field}
 use Rattle.fields.specs.declared.Field.the-variants.{Got, Refused}
-use Rattle.fields.specs.Read.{Read, got, readOf, beside, byte, byteBelow, byteUpTo}
+use Rattle.fields.specs.inside.Outcomes.{readOf, beside}
+use Rattle.fields.specs.Read.{Read, got, byte, byteBelow, byteUpTo}
 use Rattle.fields.proofs.Laws.{taken, handed}
 use Rattle.rel.specs.declared.Layout.{Layout}
 use Rattle.rel.specs.declared.Layout.the-variants.{Zeros, Single, Pair, Number, Mask}
 use Rattle.rel.specs.Rel.{layouts, layoutOf, readX, readY, operationOf, stepRead}
 use Rattle.rel.proofs.File.{judged-out, range-out}
-use Rattle.program.specs.ProgramRead.{xLimit, FitsLayout}
+use Rattle.program.specs.inside.ProgramRead.{xLimit, FitsLayout}
 
 -- what is read for the layout that it is
 module _ (n : ℕ) (s : List ℕ) (at : ℕ) {l l′ : Layout} {e : Read ℕ} (h : l ≡ l′) where

@@ -15,17 +15,17 @@ use Rattle.meaning.specs.declared.Program.{Program}
 use Rattle.meaning.specs.declared.Reason.the-variants.{Bound}
 use Rattle.meaning.specs.declared.Refusal.{Refusal}
 use Rattle.meaning.specs.Limits.{stepLimit}
-use Rattle.meaning.specs.Records.{blankStep, stepsFrom, programOf}
+use Rattle.meaning.specs.inside.Records.{blankStep, stepsFrom, programOf}
 use Rattle.meaning.proofs.Records.{steps-length}
 use Rattle.fields.specs.declared.Cursor.{Cursor}
 use Rattle.fields.specs.declared.Field.{Field}
 use Rattle.fields.specs.declared.Field.the-variants.{Got, Refused}
-use Rattle.fields.specs.Outcomes.{outcomeOf}
-use Rattle.fields.specs.Read.{Read, Reader, got, refused, bind, _>>=_, _>>_, give, readOf, passed, beside, byteUpTo, header, end, ended}
+use Rattle.fields.specs.inside.Outcomes.{outcomeOf, readOf, passed, beside}
+use Rattle.fields.specs.Read.{Read, Reader, got, refused, bind, _>>=_, _>>_, give, byteUpTo, header, end, ended}
 use Rattle.fields.proofs.Laws.{taken, handed, taken-passed, handed-passed, beside-got, beside-refused}
 use Rattle.rel.specs.Rel.{stepRead, stepsRead, program, programFile}
 use Rattle.program.specs.declared.ProgramRead.{ProgramRead}
-use Rattle.program.specs.ProgramRead.{refusedBy, programRead}
+use Rattle.program.specs.inside.ProgramRead.{refusedBy, programRead}
 use Rattle.program.proofs.Laws.{at-most}
 
 abbrev pub empty : Program

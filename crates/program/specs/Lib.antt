@@ -1,1 +1,1 @@
-pub mod ProgramRead
+pub mod inside

@@ -1,9 +1,10 @@
 // The program file's reader. A step's fields are read as the table of layouts says.
 ghost use mathlib.Core.Path.{_≡_};
 ghost use Prim.Native.Nat.{_≤_};
-ghost use Rattle.fields.specs.Read.{readOf, beside, ended};
+ghost use Rattle.fields.specs.inside.Outcomes.{readOf, beside};
+ghost use Rattle.fields.specs.Read.{ended};
 ghost use Rattle.rel.specs.Rel.{readX, readY, operationOf, stepRead, stepsRead, programFile};
-ghost use Rattle.program.specs.ProgramRead.{FitsLayout, refusedBy, programRead};
+ghost use Rattle.program.specs.inside.ProgramRead.{FitsLayout, refusedBy, programRead};
 use fields::Cursor;
 use fields::Field;
 use meaning::Operation;

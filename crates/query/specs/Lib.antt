@@ -1,2 +1,2 @@
 pub mod Qry
-pub mod PartsRead
+pub mod inside

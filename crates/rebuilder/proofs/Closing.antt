@@ -8,13 +8,13 @@ use lib.ListN.{length}
 use borrow.Author.Needs.{needs}
 use Rattle.meaning.specs.declared.Element.{Element}
 use Rattle.meaning.specs.Documents.{node}
-use Rattle.elements.specs.Packing.{keptIn}
+use Rattle.elements.specs.inside.Packing.{keptIn}
 use Rattle.elements.proofs.Packing.{held-room}
 use Rattle.fields.specs.Write.{byteOf}
 use Rattle.tre.specs.Tre.{closes}
 use Rattle.tre.proofs.Climbs.{Up, here, up, closes-none}
 use Rattle.writing.proofs.Toward.{Toward, toward-none, toward-room, toward-more, toward-all}
-use Rattle.rebuilder.specs.Rebuild.{closesAfter, TokensFit}
+use Rattle.rebuilder.specs.inside.TokensFit.{closesAfter, TokensFit}
 use Rattle.rebuilder.proofs.Closes.{less, up-next, closes-up}
 
 -- Element n has been reached on the way up to the parent of the element that follows a.

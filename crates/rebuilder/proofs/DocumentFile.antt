@@ -7,14 +7,15 @@ use lib.ListN.{length}
 use borrow.Author.Needs.{needs}
 use Rattle.meaning.specs.declared.Answer.{Answer}
 use Rattle.meaning.specs.declared.Reason.the-variants.{Room}
-use Rattle.elements.specs.Packing.{keptIn}
+use Rattle.elements.specs.inside.Packing.{keptIn}
 use Rattle.fields.specs.Write.{headerOf}
 use Rattle.tre.specs.Tre.{documentBytes}
 use Rattle.writing.specs.Lent.{accepted, turnedAway, stored, Leaves}
-use Rattle.writing.specs.Put.{Put}
+use Rattle.writing.specs.inside.Put.{Put}
 use Rattle.writing.proofs.Puts.{put-then, put-length}
 use Rattle.writing.proofs.Stored.{stored-none, stored-all}
-use Rattle.rebuilder.specs.Rebuild.{documentLength, Held, tokensIn, TokensFit}
+use Rattle.rebuilder.specs.inside.TokensFit.{Held, tokensIn, TokensFit}
+use Rattle.rebuilder.specs.Rebuild.{documentLength}
 use Rattle.rebuilder.proofs.Closes.{document-length}
 
 module _ {kept : List ℕ} {count : ℕ} (held : Held kept count) where

@@ -9,13 +9,13 @@ use lib.ListN.{length}
 use borrow.Author.Needs.{needs}
 use Rattle.meaning.specs.declared.Element.{Element}
 use Rattle.meaning.specs.Documents.{node}
-use Rattle.elements.specs.Packing.{keptIn}
+use Rattle.elements.specs.inside.Packing.{keptIn}
 use Rattle.elements.proofs.Packing.{held-room}
 use Rattle.tre.specs.Tre.{openOf, tokensOf}
-use Rattle.writing.specs.Put.{Put}
+use Rattle.writing.specs.inside.Put.{Put}
 use Rattle.writing.proofs.Puts.{put-bytes-word}
 use Rattle.writing.proofs.Toward.{Toward, toward-none, toward-room, toward-more, toward-last}
-use Rattle.rebuilder.specs.Rebuild.{closesAfter, tokensIn, TokensFit}
+use Rattle.rebuilder.specs.inside.TokensFit.{closesAfter, tokensIn, TokensFit}
 use Rattle.rebuilder.proofs.Closes.{past-last}
 
 -- the tokens behind element n

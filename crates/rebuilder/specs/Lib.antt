@@ -1,2 +1,3 @@
--- What the rebuilder needs and writes.
+-- How long a document file is, and what the rebuilder's functions ask of each other.
 pub mod Rebuild
+pub mod inside

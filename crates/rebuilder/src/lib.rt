@@ -1,11 +1,11 @@
 // The rebuilder: writes the document file of elements that are kept.
 ghost use Prim.Native.Nat.{_+_, _≤_};
 ghost use lib.ListN.{length};
-ghost use Rattle.elements.specs.Packing.{keptIn};
+ghost use Rattle.elements.specs.inside.Packing.{keptIn};
 ghost use Rattle.tre.specs.Tre.{openOf, documentBytes};
 ghost use Rattle.writing.specs.Lent.{Leaves, stored};
-ghost use Rattle.writing.specs.Put.{Put};
-ghost use Rattle.rebuilder.specs.Rebuild.{Held, closesAfter, tokensIn, TokensFit};
+ghost use Rattle.writing.specs.inside.Put.{Put};
+ghost use Rattle.rebuilder.specs.inside.TokensFit.{Held, closesAfter, tokensIn, TokensFit};
 use meaning::Answer;
 use meaning::Element;
 use meaning::Reason;

@@ -14,10 +14,10 @@ use Rattle.meaning.specs.Sets.{any}
 use Rattle.meaning.specs.Relations.{Relation, closure}
 use Rattle.meaning.proofs.Sets.{any-cong}
 use Rattle.rows.specs.declared.Mix.the-variants.{Either, First}
-use Rattle.rows.specs.Rows.{inRow, Bits, gathered, mixes, rowsAt, OthersStay, Next, mixedRows}
+use Rattle.rows.specs.inside.Rows.{inRow, Bits, gathered, mixes, rowsAt, OthersStay, Next, mixedRows}
 use Rattle.rows.proofs.Bytes.{kept-all, kept-inside}
 use Rattle.rows.proofs.Searches.{some-below}
-use Rattle.rooms.specs.Rooms.{upTo, changed, Places, RoomMade, Taken, Grown, Swept, Closable}
+use Rattle.rooms.specs.inside.Rooms.{upTo, changed, Places, RoomMade, Taken, Grown, Swept, Closable}
 use Rattle.rooms.proofs.Changes.{changed-here, upTo-all}
 use Rattle.rooms.proofs.Rooms.{room-on, operands-kept, places-kept, row-first, made-as, made-after}
 use Rattle.rooms.proofs.Turns.{room-small, gathered-wide}

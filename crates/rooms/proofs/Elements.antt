@@ -13,20 +13,21 @@ use Rattle.meaning.specs.declared.Element.{Element}
 use Rattle.meaning.specs.declared.Operation.the-variants.{Table}
 use Rattle.meaning.specs.Limits.{types, rowBits, roomBytes}
 use Rattle.meaning.specs.Sets.{any, bit}
-use Rattle.meaning.specs.Relations.{Relation, nothing, diagonal}
+use Rattle.meaning.specs.inside.Diagonal.{diagonal}
+use Rattle.meaning.specs.Relations.{Relation, nothing}
 use Rattle.meaning.specs.Documents.{View, isElement, isParent, textTest, view, node}
 use Rattle.meaning.specs.Operations.{rows}
 use Rattle.meaning.proofs.Tests.{and-in, and-left}
 use Rattle.meaning.proofs.Views.{element-there, parent-element}
-use Rattle.elements.specs.Packing.{elementIn, keptIn, shown}
+use Rattle.elements.specs.inside.Packing.{elementIn, keptIn, shown}
 use Rattle.elements.proofs.Packing.{held-long, held-there}
-use Rattle.rows.specs.Rows.{rowsAt, OthersStay, Next}
+use Rattle.rows.specs.inside.Rows.{rowsAt, OthersStay, Next}
 use Rattle.rows.proofs.Cases.{by-equal}
 use Rattle.rows.proofs.Searches.{some-below}
 use Rattle.rooms.specs.declared.room.Test.{Test}
 use Rattle.rooms.specs.declared.room.Test.the-variants.{Always, Text, Related}
-use Rattle.rooms.specs.Rooms.{columns, added, passing, Testable, RoomMade}
-use Rattle.rooms.specs.FitToRun.{Nodes}
+use Rattle.rooms.specs.inside.Rooms.{columns, added, passing, Testable, RoomMade}
+use Rattle.rooms.specs.inside.FitToRun.{Nodes}
 use Rattle.rooms.proofs.Changes.{columns-none, columns-all}
 use Rattle.rooms.proofs.Rooms.{room-kept, made-as, made-none, made-after, column-more}
 

@@ -17,16 +17,16 @@ use Rattle.meaning.specs.Sets.{bit, listed}
 use Rattle.meaning.specs.Relations.{at}
 use Rattle.meaning.specs.Documents.{View}
 use Rattle.meaning.specs.Operations.{run, last, answer}
-use Rattle.meaning.specs.Records.{operationsIn}
+use Rattle.meaning.specs.inside.Records.{operationsIn}
 use Rattle.meaning.proofs.Tests.{fails}
 use Rattle.meaning.proofs.Sets.{listed-cong}
 use Rattle.writing.specs.Lent.{accepted, turnedAway, over}
-use Rattle.rows.specs.Rows.{inRow, Bits, rowsAt}
+use Rattle.rows.specs.inside.Rows.{inRow, Bits, rowsAt}
 use Rattle.rows.proofs.Cases.{by-order}
 use Rattle.rows.proofs.Searches.{listed-still}
 use Rattle.rooms.specs.Layout.{workByte, overwritten}
-use Rattle.elements.specs.Packing.{shown}
-use Rattle.rooms.specs.FitToRun.{FitToRun}
+use Rattle.elements.specs.inside.Packing.{shown}
+use Rattle.rooms.specs.inside.FitToRun.{FitToRun}
 use Rattle.rooms.specs.Run.{leaves, performed, Gives}
 use Rattle.rooms.proofs.Elements.{size-is}
 use Rattle.rooms.proofs.Layouts.{joined-is}

@@ -20,20 +20,20 @@ use Rattle.meaning.specs.Lists.{table}
 use Rattle.meaning.specs.Relations.{Relation, at}
 use Rattle.meaning.specs.Documents.{View}
 use Rattle.meaning.specs.Operations.{rows, results, run}
-use Rattle.meaning.specs.Records.{operationsIn}
+use Rattle.meaning.specs.inside.Records.{operationsIn}
 use Rattle.meaning.proofs.Lists.{table-more, table-cong}
 use Rattle.meaning.proofs.Records.{operation-at}
 use Rattle.meaning.proofs.Results.{results-append}
 use Rattle.meaning.proofs.Runs.{run-nodes}
-use Rattle.rows.specs.Rows.{rowsAt, OthersStay}
+use Rattle.rows.specs.inside.Rows.{rowsAt, OthersStay}
 use Rattle.rows.proofs.Bytes.{kept-all, kept-wider, kept-inside}
 use Rattle.rows.proofs.Cases.{by-order}
 use Rattle.rows.proofs.Rows.{row-order}
 use Rattle.rooms.specs.Layout.{roomByte, workByte, overwritten}
-use Rattle.elements.specs.Packing.{shown}
-use Rattle.rooms.specs.FitToRun.{Nodes, FitToRun}
-use Rattle.rooms.specs.Rooms.{RowWidth, RoomMade}
-use Rattle.rooms.specs.Steps.{roomsIn, Makeable}
+use Rattle.elements.specs.inside.Packing.{shown}
+use Rattle.rooms.specs.inside.FitToRun.{Nodes, FitToRun}
+use Rattle.rooms.specs.inside.Rooms.{RowWidth, RoomMade}
+use Rattle.rooms.specs.inside.Steps.{roomsIn, Makeable}
 use Rattle.rooms.proofs.Elements.{size-is, there-node}
 use Rattle.rooms.proofs.Layouts.{byte-is, overwritten-front, overwritten-past, overwritten-length}
 use Rattle.rooms.proofs.Rooms.{room-kept}

@@ -15,11 +15,11 @@ use Rattle.meaning.specs.Relations.{Relation, nothing}
 use Rattle.meaning.proofs.Sets.{bit-none}
 use Rattle.meaning.proofs.Tests.{never}
 use Rattle.meaning.proofs.Closure.{On}
-use Rattle.rows.specs.Rows.{inRow, inBytes, Bits, Placed, including, stretch, rowsAt, OthersStay, BytesMade, RowMade, BitPut, Next}
+use Rattle.rows.specs.inside.Rows.{inRow, inBytes, Bits, Placed, including, stretch, rowsAt, OthersStay, BytesMade, RowMade, BitPut, Next}
 use Rattle.rows.proofs.Bytes.{kept-all, kept-wider, kept-inside, stretch-kept, written-none, written-more}
 use Rattle.rows.proofs.Cases.{by-order, by-equal}
 use Rattle.rows.proofs.Rows.{row-order, row-bit, row-past, row-read}
-use Rattle.rooms.specs.Rooms.{RowWidth, upTo, columns, changed, added, Places, RoomMade}
+use Rattle.rooms.specs.inside.Rooms.{RowWidth, upTo, columns, changed, added, Places, RoomMade}
 use Rattle.rooms.proofs.Changes.{changed-here, changed-else, upTo-none, columns-none, row-next, column-next}
 
 module _ (width : ℕ) where

@@ -12,21 +12,22 @@ use Rattle.meaning.specs.declared.Operation.{Operation}
 use Rattle.meaning.specs.declared.Operation.the-variants.{Table, Itself, Text, Join, Union, Closure, Has, Diff, Both}
 use Rattle.meaning.specs.Limits.{small, rowBits, roomBytes}
 use Rattle.meaning.specs.Sets.{any}
-use Rattle.meaning.specs.Relations.{Relation, nothing, at, join, unite, has, difference, intersection, closure, diagonal}
+use Rattle.meaning.specs.inside.Diagonal.{diagonal}
+use Rattle.meaning.specs.Relations.{Relation, nothing, at, join, unite, has, difference, intersection, closure}
 use Rattle.meaning.specs.Operations.{LegalOperation, rows}
 use Rattle.meaning.proofs.Lists.{table-length, table-at}
 use Rattle.meaning.proofs.Tests.{never}
 use Rattle.meaning.proofs.Runs.{OnNodes, rows-nodes}
 use Rattle.rows.specs.declared.Mix.the-variants.{Either, Both as Shared, First}
-use Rattle.rows.specs.Rows.{mixes, rowsAt, mixedRows}
+use Rattle.rows.specs.inside.Rows.{mixes, rowsAt, mixedRows}
 use Rattle.rows.proofs.Cases.{by-order}
 use Rattle.rows.proofs.Rows.{row-order}
 use Rattle.rooms.specs.declared.room.Test.{Test}
 use Rattle.rooms.specs.declared.room.Test.the-variants.{Always, Text as Texts, Related}
-use Rattle.rooms.specs.Rooms.{RowWidth, upTo, columns, passing, Places, Testable, RoomMade, Closable}
-use Rattle.elements.specs.Packing.{shown}
-use Rattle.rooms.specs.FitToRun.{Nodes}
-use Rattle.rooms.specs.Steps.{roomsIn, Makeable}
+use Rattle.rooms.specs.inside.Rooms.{RowWidth, upTo, columns, passing, Places, Testable, RoomMade, Closable}
+use Rattle.elements.specs.inside.Packing.{shown}
+use Rattle.rooms.specs.inside.FitToRun.{Nodes}
+use Rattle.rooms.specs.inside.Steps.{roomsIn, Makeable}
 use Rattle.rooms.proofs.Changes.{upTo-all, columns-all}
 use Rattle.rooms.proofs.Rooms.{made-as}
 use Rattle.rooms.proofs.Elements.{size-is, node-there, there-node}

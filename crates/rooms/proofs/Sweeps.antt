@@ -11,8 +11,8 @@ use Rattle.meaning.proofs.Tests.{never, same, and-in, and-left, and-right, or-l
 use Rattle.meaning.proofs.Sets.{any-in, any-out}
 use Rattle.meaning.proofs.Closure.{On, closure-sound, closure-complete}
 use Rattle.rows.specs.declared.Mix.the-variants.{First}
-use Rattle.rows.specs.Rows.{gathered, mixes}
-use Rattle.rooms.specs.Rooms.{changed, Grown}
+use Rattle.rows.specs.inside.Rows.{gathered, mixes}
+use Rattle.rooms.specs.inside.Rooms.{changed, Grown}
 use Rattle.rows.proofs.Cases.{by-order, by-equal}
 use Rattle.rooms.proofs.Changes.{changed-here, changed-else}
 

@@ -16,12 +16,12 @@ use Rattle.meaning.proofs.Sets.{any-in, any-out, any-cong}
 use Rattle.meaning.proofs.Closure.{On}
 use Rattle.rows.specs.declared.Mix.{Mix}
 use Rattle.rows.specs.declared.Mix.the-variants.{Both}
-use Rattle.rows.specs.Rows.{inRow, Bits, including, gathered, mixes, rowsAt, Next, mixedRows}
+use Rattle.rows.specs.inside.Rows.{inRow, Bits, including, gathered, mixes, rowsAt, Next, mixedRows}
 use Rattle.rows.proofs.Searches.{some-below}
 use Rattle.rows.proofs.Rows.{row-blank}
 use Rattle.rooms.specs.declared.room.Way.{Way}
 use Rattle.rooms.specs.declared.room.Way.the-variants.{Mixed, Joined}
-use Rattle.rooms.specs.Rooms.{RowWidth, upTo, changed, starting, combined, Places, RoomMade}
+use Rattle.rooms.specs.inside.Rooms.{RowWidth, upTo, changed, starting, combined, Places, RoomMade}
 use Rattle.rooms.proofs.Changes.{upTo-none, one-more}
 use Rattle.rooms.proofs.Rooms.{room-on, made-as, made-none, made-after, operands-kept, places-kept, row-more}
 

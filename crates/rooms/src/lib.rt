@@ -4,12 +4,12 @@ ghost use Prim.Native.Nat.{_*_, _≤_, _<_};
 ghost use lib.ListN.{length};
 ghost use Rattle.meaning.specs.Limits.{roomBytes};
 ghost use Rattle.meaning.specs.Operations.{rows};
-ghost use Rattle.meaning.specs.Records.{operationsIn};
+ghost use Rattle.meaning.specs.inside.Records.{operationsIn};
 ghost use Rattle.rooms.specs.Layout.{workByte, overwritten};
-ghost use Rattle.rooms.specs.Rooms.{RowWidth, RoomMade};
-ghost use Rattle.elements.specs.Packing.{shown};
-ghost use Rattle.rooms.specs.FitToRun.{FitToRun};
-ghost use Rattle.rooms.specs.Steps.{roomsIn, Makeable};
+ghost use Rattle.rooms.specs.inside.Rooms.{RowWidth, RoomMade};
+ghost use Rattle.elements.specs.inside.Packing.{shown};
+ghost use Rattle.rooms.specs.inside.FitToRun.{FitToRun};
+ghost use Rattle.rooms.specs.inside.Steps.{roomsIn, Makeable};
 ghost use Rattle.rooms.specs.Run.{performed, Gives};
 
 mod room;

@@ -3,8 +3,8 @@ ghost use mathlib.Core.Path.{_≡_};
 ghost use Prim.Native.Nat.{_+_, _≤_, _<_};
 ghost use lib.ListN.{length};
 ghost use Rattle.meaning.specs.Limits.{rowBits, roomBytes};
-ghost use Rattle.rows.specs.Rows.{inRow, rowsAt, Bits, Next};
-ghost use Rattle.rooms.specs.Rooms.{RowWidth, changed, added, RoomMade};
+ghost use Rattle.rows.specs.inside.Rows.{inRow, rowsAt, Bits, Next};
+ghost use Rattle.rooms.specs.inside.Rooms.{RowWidth, changed, added, RoomMade};
 
 pub(crate) fn read(work: &[u8], a: usize, v: usize, width: usize) -> [u64; 2]
     requires { ⌜ RowWidth width × (a + roomBytes width ≤ length (now work)) × (v < rowBits width) ⌝ }

@@ -7,7 +7,7 @@ use native.Mathlib.Omega.{arith}
 use borrow.Author.Count.{below-none, below-more}
 use lib.ListN.{length, getD, set, take, drop, length-set, length-take, length-drop, List·getD-eq-default}
 use lib.Seq.{getD-set-same, getD-set-other, getD-take, getD-drop, drop-set-add, take-set-lt, ext-getD}
-use Rattle.rows.specs.Rows.{stretch, OthersStay, BytesMade}
+use Rattle.rows.specs.inside.Rows.{stretch, OthersStay, BytesMade}
 
 pub kept-all : {xs : List ℕ} {from size : ℕ} → OthersStay xs xs from size
 kept-all = record { same = refl; before = λ i l. refl; after = λ i l. refl }

@@ -13,9 +13,9 @@ use lib.ListN.{length, getD, set, length-append, length-set}
 use Rattle.meaning.specs.Sets.{bit, listed}
 use Rattle.meaning.proofs.Sets.{listed-cong}
 use Rattle.writing.specs.Lent.{over}
-use Rattle.writing.specs.Put.{Put}
+use Rattle.writing.specs.inside.Put.{Put}
 use Rattle.writing.proofs.Puts.{put-nothing, put-then, put-byte}
-use Rattle.rows.specs.Rows.{inRow, Next}
+use Rattle.rows.specs.inside.Rows.{inRow, Next}
 use Rattle.rows.proofs.Bits.{digit, word-bit}
 use Rattle.rows.proofs.Searches.{listed-still}
 

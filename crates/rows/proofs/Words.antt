@@ -15,7 +15,7 @@ use Rattle.meaning.specs.Sets.{bit, mask}
 use Rattle.meaning.proofs.Tests.{fails}
 use Rattle.meaning.proofs.Sets.{bit-none, bit-mask}
 use Rattle.meaning.proofs.Bits.{mask-cong, bits-below, bit-and}
-use Rattle.rows.specs.Rows.{bitIn, inRow, inBytes, stretch, Bits, BytesMade, RowMade}
+use Rattle.rows.specs.inside.Rows.{bitIn, inRow, inBytes, stretch, Bits, BytesMade, RowMade}
 use Rattle.rows.proofs.Cases.{by-order}
 use Rattle.rows.proofs.Bits.{bit-shifted, bit-not, digit, is-mask}
 use Rattle.rows.proofs.Bytes.{written-called, kept-wider, kept-inside, stretch-kept}

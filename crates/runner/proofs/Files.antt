@@ -14,16 +14,17 @@ use Rattle.meaning.specs.declared.Program.{Program}
 use Rattle.meaning.specs.declared.Refusal.{Refusal}
 use Rattle.meaning.specs.Limits.{elementLimit}
 use Rattle.meaning.specs.Documents.{view}
-use Rattle.meaning.specs.Records.{operationsIn}
+use Rattle.meaning.specs.inside.Records.{operationsIn}
 use Rattle.fields.specs.Read.{got}
 use Rattle.graph.specs.Gra.{graphFile}
 use Rattle.edg.specs.Edg.{tablesFile}
 use Rattle.rel.specs.Rel.{programFile}
 use Rattle.writing.specs.Lent.{turnedAway}
-use Rattle.files.specs.Files.{followedBy, tablesThenProgram, Opens, OfTablesThenProgram}
+use Rattle.files.specs.inside.Opens.{Opens, OfTablesThenProgram}
+use Rattle.files.specs.Files.{followedBy, tablesThenProgram}
 use Rattle.files.proofs.Handed.{under-got, then-got, mapped-got, mapped-refused}
-use Rattle.elements.specs.Packing.{shown}
-use Rattle.rooms.specs.FitToRun.{FitToRun}
+use Rattle.elements.specs.inside.Packing.{shown}
+use Rattle.rooms.specs.inside.FitToRun.{FitToRun}
 use Rattle.rooms.specs.Run.{performed, Gives}
 use Rattle.runner.specs.Run.{ran, toRun, runOf}
 use Rattle.runner.proofs.Prepared.{ready}

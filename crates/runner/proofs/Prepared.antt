@@ -10,11 +10,11 @@ use Rattle.meaning.specs.Limits.{elementLimit, stepLimit}
 use Rattle.meaning.specs.Graphs.{LegalGraph}
 use Rattle.meaning.specs.Documents.{Accepted}
 use Rattle.meaning.specs.Operations.{LegalProgram}
-use Rattle.meaning.specs.Records.{operationsIn}
+use Rattle.meaning.specs.inside.Records.{operationsIn}
 use Rattle.meaning.proofs.KindSets.{edge-types}
 use Rattle.meaning.proofs.Views.{accepted-keeps}
-use Rattle.elements.specs.Packing.{keptIn}
-use Rattle.rooms.specs.FitToRun.{Nodes, FitToRun}
+use Rattle.elements.specs.inside.Packing.{keptIn}
+use Rattle.rooms.specs.inside.FitToRun.{Nodes, FitToRun}
 
 module _ (g : Graph) (legal : LegalGraph g) {kept : List ℕ} {count : ℕ} (a : Accepted elementLimit g (keptIn kept count)) (room : count ≤ length kept) (whole : length (keptIn kept count) ≡ count) where
   accepted-nodes : Nodes kept count

@@ -10,16 +10,16 @@ use lib.Dec.{eqb}
 use lib.ListN.{length}
 use borrow.Author.Needs.{needs}
 use Rattle.meaning.specs.declared.Element.{Element}
-use Rattle.elements.specs.Packing.{keptIn}
+use Rattle.elements.specs.inside.Packing.{keptIn}
 use Rattle.fields.specs.Read.{pick}
 use Rattle.fields.specs.Write.{byteOf}
 use Rattle.edg.specs.declared.Row.{Row}
 use Rattle.edg.specs.Edg.{rowsOf, rowsBytes, tableBytes, tablesOf}
 use Rattle.edg.proofs.Rows.{rows-length}
-use Rattle.writing.specs.Put.{Put}
+use Rattle.writing.specs.inside.Put.{Put}
 use Rattle.writing.proofs.Puts.{put-before}
 use Rattle.writing.proofs.Toward.{Toward, toward-none, toward-room, toward-more, toward-all}
-use Rattle.shredder.specs.Shred.{RowsFit}
+use Rattle.shredder.specs.inside.RowsFit.{RowsFit}
 
 -- no more rows than elements
 rows-most : (t i : ℕ) (es : List Element) → length (rowsOf t i es) ≤ length es

@@ -11,16 +11,17 @@ use Rattle.meaning.specs.declared.Graph.{Graph}
 use Rattle.meaning.specs.declared.Reason.the-variants.{Room}
 use Rattle.meaning.specs.Graphs.{LegalGraph}
 use Rattle.meaning.specs.Documents.{Accepted}
-use Rattle.elements.specs.Packing.{keptIn}
+use Rattle.elements.specs.inside.Packing.{keptIn}
 use Rattle.fields.specs.Write.{byteOf, headerOf}
 use Rattle.edg.specs.Edg.{rowsOf, rowsBytes, tableBytes, tablesOf, tablesBytes}
 use Rattle.edg.proofs.Rows.{rows-length}
 use Rattle.edg.proofs.File.{tabled, tabled-count}
 use Rattle.writing.specs.Lent.{accepted, turnedAway, stored, Leaves}
-use Rattle.writing.specs.Put.{Put}
+use Rattle.writing.specs.inside.Put.{Put}
 use Rattle.writing.proofs.Puts.{put-then, put-length}
 use Rattle.writing.proofs.Stored.{stored-none, stored-all}
-use Rattle.shredder.specs.Shred.{tablesLength, HeldUnder, RowsFit}
+use Rattle.shredder.specs.inside.RowsFit.{HeldUnder, RowsFit}
+use Rattle.shredder.specs.Shred.{tablesLength}
 
 -- a byte for each type, and four for each row
 tabled-length : (es : List Element) (t n : ℕ) → length (tablesOf es t n) ≡ n + 4 * length (tabled es t n)

@@ -1,2 +1,3 @@
--- What the shredder needs and writes.
+-- How long a tables file is, and what the shredder's functions ask of each other.
 pub mod Shred
+pub mod inside

@@ -2,11 +2,11 @@
 ghost use Prim.Native.Nat.{_+_, _≤_};
 ghost use mathlib.Core.List.{[], _∷_};
 ghost use lib.ListN.{length};
-ghost use Rattle.elements.specs.Packing.{keptIn};
+ghost use Rattle.elements.specs.inside.Packing.{keptIn};
 ghost use Rattle.edg.specs.Edg.{rowsOf, rowBytes, rowsBytes, tableBytes, tablesOf, tablesBytes};
 ghost use Rattle.writing.specs.Lent.{Leaves, stored};
-ghost use Rattle.writing.specs.Put.{Put};
-ghost use Rattle.shredder.specs.Shred.{HeldUnder, RowsFit};
+ghost use Rattle.writing.specs.inside.Put.{Put};
+ghost use Rattle.shredder.specs.inside.RowsFit.{HeldUnder, RowsFit};
 use meaning::Answer;
 use meaning::Element;
 use meaning::Graph;

@@ -15,11 +15,11 @@ use Rattle.rel.specs.declared.StepBytes.{StepBytes}
 use Rattle.rel.specs.Rel.{stepBytes, stepsBytes}
 use Rattle.rel.proofs.Encoded.{steps-length}
 use Rattle.writing.specs.Lent.{over}
-use Rattle.writing.specs.Put.{Put}
+use Rattle.writing.specs.inside.Put.{Put}
 use Rattle.writing.proofs.Puts.{over-more, put-then, put-length}
 use Rattle.steps.specs.declared.Place.{Place}
 use Rattle.steps.specs.declared.Operator.{Operator}
-use Rattle.steps.specs.Writes.{applied, onto, Holds, Writes, Goes, Room}
+use Rattle.steps.specs.inside.Writes.{applied, onto, Holds, Writes, Goes, Room}
 
 steps-more : (os : List Operation) (o : Operation) → stepsBytes (os ++ (o ∷ [])) ≡ stepsBytes os ++ stepBytes o
 unfolding stepsBytes

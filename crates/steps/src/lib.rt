@@ -5,7 +5,7 @@ ghost use lib.Bits.{bitOr};
 ghost use lib.ListN.{length};
 ghost use Rattle.meaning.specs.declared.Operation.the-variants.{Table, Itself, Join, Closure};
 ghost use Rattle.meaning.specs.Translation.{step, then, descend};
-ghost use Rattle.steps.specs.Writes.{applied, onto, Goes, Room, Masked, Behind, Descending};
+ghost use Rattle.steps.specs.inside.Writes.{applied, onto, Goes, Room, Masked, Behind, Descending};
 use meaning::Operation;
 
 // Where the descent is: the kinds there, the query's next byte, and how many steps the program has so far. It goes by value

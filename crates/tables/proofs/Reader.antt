@@ -19,20 +19,21 @@ use Rattle.meaning.specs.declared.Reason.the-variants.{Bound, Number}
 use Rattle.meaning.specs.declared.Refusal.{Refusal}
 use Rattle.meaning.specs.Limits.{elementLimit}
 use Rattle.meaning.specs.Documents.{documentNode}
-use Rattle.fields.specs.Read.{Read, got, refused, bind, judge, answered, refusalOf, readOf, passed, beside, pick, end, mapped}
-use Rattle.fields.specs.Outcomes.{outcomeOf}
+use Rattle.fields.specs.Read.{Read, got, refused, bind, judge, refusalOf, pick, end, mapped}
+use Rattle.fields.specs.inside.Outcomes.{outcomeOf, readOf, answered, passed, beside}
 use Rattle.fields.specs.declared.Cursor.{Cursor}
 use Rattle.fields.specs.declared.Field.{Field}
 use Rattle.fields.specs.declared.Field.the-variants.{Got, Refused}
 use Rattle.fields.proofs.Laws.{taken, handed, taken-passed, handed-passed, beside-got, beside-refused}
 use Rattle.elements.specs.declared.ElementsRead.{ElementsRead}
-use Rattle.elements.specs.Packing.{elementIn, keptIn, Keeps}
+use Rattle.elements.specs.inside.Packing.{elementIn, keptIn, Keeps}
 use Rattle.elements.proofs.Packing.{keeps-none, keeps-all}
 use Rattle.edg.specs.declared.Row.{Row}
-use Rattle.edg.specs.Edg.{tablesRead, head, rowsFile, count, times, ones, placed, elementsOf, elementJudged, elementsJudged, whole, tablesFile, GoodRow}
+use Rattle.edg.specs.inside.GoodRow.{GoodRow}
+use Rattle.edg.specs.Edg.{tablesRead, head, rowsFile, count, times, ones, placed, elementsOf, elementJudged, elementsJudged, whole, tablesFile}
 use Rattle.edg.proofs.Lists.{either, All, all-none, all-more, same-anywhere}
 use Rattle.edg.proofs.File.{rows-good}
-use Rattle.tables.specs.Gathered.{Gathered, gatheredIn, none, put, putAll, GatheredRead}
+use Rattle.tables.specs.inside.Gathered.{Gathered, gatheredIn, none, put, putAll, GatheredRead}
 use Rattle.tables.proofs.Places.{blank-none, none-sound, climbable, place-laws}
 use Rattle.tables.proofs.Tables.{mapped-refused, mapped-got, turned-away, added-total}
 

@@ -14,17 +14,19 @@ use borrow.Author.Tests.{ltb-true, leb-true}
 use Rattle.meaning.specs.declared.Reason.the-variants.{Ended, Bound, Number}
 use Rattle.meaning.specs.declared.Refusal.{Refusal}
 use Rattle.meaning.specs.Limits.{elementLimit}
-use Rattle.fields.specs.Read.{Read, got, refused, bind, readOf, beside, byte, mapped}
+use Rattle.fields.specs.inside.Outcomes.{readOf, beside}
+use Rattle.fields.specs.Read.{Read, got, refused, bind, byte, mapped}
 use Rattle.fields.specs.declared.Cursor.{Cursor}
 use Rattle.fields.specs.declared.Field.{Field}
 use Rattle.fields.specs.declared.Field.the-variants.{Got, Refused}
 use Rattle.fields.proofs.Laws.{taken, handed, beside-got, beside-refused}
 use Rattle.fields.proofs.Formats.{got-same, pick-out, refused-out}
 use Rattle.edg.specs.declared.Row.{Row}
-use Rattle.edg.specs.Edg.{rowRule, rowFields, rowRead, rowsRead, countRead, tablesRead, GoodRow}
+use Rattle.edg.specs.inside.GoodRow.{GoodRow}
+use Rattle.edg.specs.Edg.{rowRule, rowFields, rowRead, rowsRead, countRead, tablesRead}
 use Rattle.edg.proofs.Rows.{rule-out}
 use Rattle.tables.specs.declared.RowRead.{RowRead}
-use Rattle.tables.specs.Gathered.{Gathered, none, put, putAll, Sound, GatheredRead}
+use Rattle.tables.specs.inside.Gathered.{Gathered, none, put, putAll, Sound, GatheredRead}
 use Rattle.tables.proofs.Places.{none-sound, put-sound, place-laws}
 use Rattle.tables.proofs.Stretch.{judged-out, stretch-got, stretch-refused}
 

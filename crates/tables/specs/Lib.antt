@@ -1,2 +1,2 @@
 -- What the functions of the reader of tables files promise each other.
-pub mod Gathered
+pub mod inside

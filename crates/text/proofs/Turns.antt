@@ -7,11 +7,11 @@ use lib.ListN.{length, getD, take, length-append}
 use borrow.Author.Needs.{needs}
 use Rattle.meaning.specs.declared.Element.{Element}
 use Rattle.meaning.specs.Documents.{View, view, node}
-use Rattle.writing.specs.Put.{Put}
+use Rattle.writing.specs.inside.Put.{Put}
 use Rattle.writing.proofs.Puts.{put-nothing, put-then, put-length}
 use Rattle.text.specs.Listing.{decimal, space, endOfLine, selectedWord, firstLine, line, lines, listing}
-use Rattle.elements.specs.Packing.{shown}
-use Rattle.text.specs.Listable.{Listable}
+use Rattle.elements.specs.inside.Packing.{shown}
+use Rattle.text.specs.inside.Listable.{Listable}
 use Rattle.text.proofs.LineLaws.{endedBy, ended-length, fields-length, line-is, first-length, one-more, next-fits, listing-is}
 
 -- A node's line.

@@ -18,12 +18,13 @@ use Rattle.fields.specs.Read.{Read, got, refused, mapped}
 use Rattle.writing.specs.Lent.{accepted, turnedAway}
 use Rattle.graph.specs.declared.GraphRead.{GraphRead}
 use Rattle.graph.specs.Gra.{graphFile}
-use Rattle.graph.specs.GraphRead.{graphRead}
+use Rattle.graph.specs.inside.GraphRead.{graphRead}
 use Rattle.graph.proofs.Known.{graph-turned, graph-held}
-use Rattle.files.specs.Files.{documentUnder, tablesUnder, queryUnder, programUnder, Opens, OfElements, OfQuery, OfProgram}
+use Rattle.files.specs.inside.Opens.{Opens, OfElements, OfQuery, OfProgram}
+use Rattle.files.specs.Files.{documentUnder, tablesUnder, queryUnder, programUnder}
 use Rattle.files.proofs.Handed.{mapped-got, mapped-refused}
 use Rattle.trammelbud.specs.Calls.{answerOf, readGraph, readDocument, readTables, readQuery, readProgram}
-use Rattle.trammelbud.specs.Parts.{answerFor, Countable}
+use Rattle.trammelbud.specs.inside.Parts.{answerFor, Countable}
 
 -- by how reading came out
 pub counted-accepted : {o : Outcome} {n m : ℕ} {a : Answer} → o ≡ Accepted → m ≡ n → a ≡ accepted m → a ≡ answerFor o n

@@ -16,18 +16,18 @@ use Rattle.meaning.specs.declared.Reason.the-variants.{Room}
 use Rattle.meaning.specs.Limits.{small, words, elementLimit, roomBytes, types, document}
 use Rattle.meaning.specs.Documents.{view, node, isElement, documentNode}
 use Rattle.meaning.specs.Operations.{answer}
-use Rattle.meaning.specs.Records.{operationsIn}
-use Rattle.elements.specs.Packing.{keptIn, shown}
+use Rattle.meaning.specs.inside.Records.{operationsIn}
+use Rattle.elements.specs.inside.Packing.{keptIn, shown}
 use Rattle.elements.proofs.Packing.{held-long}
 use Rattle.writing.specs.Lent.{accepted, turnedAway, over}
-use Rattle.writing.specs.Put.{Put}
+use Rattle.writing.specs.inside.Put.{Put}
 use Rattle.writing.proofs.Puts.{over-front, over-length}
 use Rattle.rooms.specs.Layout.{workByte, overwritten}
-use Rattle.rooms.specs.FitToRun.{FitToRun}
+use Rattle.rooms.specs.inside.FitToRun.{FitToRun}
 use Rattle.rooms.specs.Run.{Ran, Gives, performed, leaves}
 use Rattle.runner.specs.Promises.{Roomy}
 use Rattle.runner.proofs.Theorems.{performed-given, few-nodes, nodes-below}
-use Rattle.text.specs.Listable.{Listable}
+use Rattle.text.specs.inside.Listable.{Listable}
 use Rattle.text.specs.Listing.{listing, listingRoom}
 use Rattle.text.proofs.LineLaws.{listing-most}
 use Rattle.trammelbud.specs.Calls.{lists}

@@ -24,41 +24,42 @@ use Rattle.meaning.specs.Limits.{words, elementLimit, stepLimit}
 use Rattle.meaning.specs.Documents.{view, Accepted}
 use Rattle.meaning.specs.Queries.{XPath, selected}
 use Rattle.meaning.specs.Operations.{answer}
-use Rattle.meaning.specs.Records.{programOf, operationsIn}
+use Rattle.meaning.specs.inside.Records.{programOf, operationsIn}
 use Rattle.meaning.specs.Translation.{translated, stepCount}
 use Rattle.meaning.proofs.Records.{program-holds}
 use Rattle.meaning.proofs.Theorems.{translation-is-right}
 use Rattle.fields.specs.Read.{Read, got, refused, bind, pick, mapped}
-use Rattle.elements.specs.Packing.{keptIn, shown}
+use Rattle.elements.specs.inside.Packing.{keptIn, shown}
 use Rattle.query.specs.Qry.{queryFile}
 use Rattle.query.proofs.File.{query-read}
 use Rattle.edg.specs.Edg.{tablesFile}
 use Rattle.rel.specs.Rel.{programFile, programBytes}
 use Rattle.program.specs.declared.ProgramRead.{ProgramRead}
-use Rattle.program.specs.ProgramRead.{programRead}
+use Rattle.program.specs.inside.ProgramRead.{programRead}
 use Rattle.writing.specs.Lent.{Lent, accepted, turnedAway, over, stored, lent, Leaves}
 use Rattle.writing.proofs.Puts.{over-front, over-length}
 use Rattle.writing.proofs.Stored.{stored-there}
-use Rattle.files.specs.Files.{under, followedBy, tablesThenQuery, Opens, OfElements, OfTablesThenQuery}
+use Rattle.files.specs.inside.Opens.{Opens, OfElements, OfTablesThenQuery}
+use Rattle.files.specs.Files.{under, followedBy, tablesThenQuery}
 use Rattle.files.proofs.Handed.{under-out, then-out, mapped-got, mapped-refused}
-use Rattle.rooms.specs.FitToRun.{FitToRun}
+use Rattle.rooms.specs.inside.FitToRun.{FitToRun}
 use Rattle.rooms.specs.Run.{Ran, Gives, performed}
 use Rattle.runner.proofs.Prepared.{ready}
-use Rattle.translator.specs.Translatable.{AcceptedQuery}
-use Rattle.translator.specs.Translate as translate
-use Rattle.translator.specs.Translate.{translatedQuery, translatedUnder}
+use Rattle.translator.specs.inside.Translatable.{AcceptedQuery}
+use Rattle.translator.specs.Translate.{boundedProgram}
+use Rattle.translator.specs.inside.Translated.{translatedQuery, translatedUnder}
 use Rattle.translator.proofs.Checked.{file-length, Checked, translated-checked, translated-stored}
 use Rattle.trammelbud.specs.Calls.{Asked, asking, asked, askedOr, chosen, selectOf, lists, told, listOf}
-use Rattle.trammelbud.specs.Parts.{Translated, Planned}
+use Rattle.trammelbud.specs.inside.Parts.{Translated, Planned}
 
 -- A query that was accepted, by how many steps it takes.
 module _ {g : Graph} {qry : List ℕ} (A : AcceptedQuery g qry) where
   few-steps : stepCount (A .query) ≤ stepLimit → translatedQuery g qry ≡ got (translated g (A .query)) (A .end)
-  unfolding translatedQuery translate.boundedProgram
+  unfolding translatedQuery boundedProgram
   few-steps few = rw (A .reads, le-leb (stepCount (A .query)) stepLimit few)
 
   many-steps : stepLimit < stepCount (A .query) → translatedQuery g qry ≡ refused (record { reason = Steps })
-  unfolding translatedQuery translate.boundedProgram
+  unfolding translatedQuery boundedProgram
   many-steps many = rw (A .reads, lt-leb (stepCount (A .query)) stepLimit many)
 
   by-steps : {P : Type 0} → (stepCount (A .query) ≤ stepLimit → P) → (stepLimit < stepCount (A .query) → P) → P
@@ -152,7 +153,7 @@ module _ (gra edg qry : List ℕ) {o : Outcome} {g : Graph} {kept : List ℕ} {c
         record { graph = w .legal; query = q; legal = legal; file = same; left = left; end = n; reads = query }
 
     pub plan-made : {o′ : Outcome} {program : Program} → Opens (translatedQuery g qry) o′ (Translated g program) → Opens (asked gra edg qry) o′ (Planned kept count program)
-    unfolding asked translatedQuery translate.boundedProgram
+    unfolding asked translatedQuery boundedProgram
     plan-made {o′} {program} t =
         let (q, left, n, e, query, w) = parts in
         let es = keptIn kept count in
@@ -160,7 +161,7 @@ module _ (gra edg qry : List ℕ) {o : Outcome} {g : Graph} {kept : List ℕ} {c
           turned = λ {r} i. rw e (mapped-refused _ (rw query at (t .turned i)));
           held = λ i.
               let (os, m, made, v) = t .held i in
-              let os-is : translate.boundedProgram g q n ≡ got os m = rw query at made in (
+              let os-is : boundedProgram g q n ≡ got os m = rw query at made in (
                 record { view = view es; path = q; program = os },
                 m,
                 rw e (mapped-got _ os-is),
@@ -178,7 +179,7 @@ module _ (gra edg qry : List ℕ) {o : Outcome} {g : Graph} {kept : List ℕ} {c
         picked q n true i = cc
         picked q n false i = cc
 
-        translated-is : (q : XPath) (n : ℕ) {m : ℕ} {os : List Operation} → translate.boundedProgram g q n ≡ got os m → os ≡ translated g q
+        translated-is : (q : XPath) (n : ℕ) {m : ℕ} {os : List Operation} → boundedProgram g q n ≡ got os m → os ≡ translated g q
         translated-is q n i = picked q n (leb (stepCount q) stepLimit) i
 
 -- A plan is carried out.

@@ -8,7 +8,7 @@ ghost use Rattle.announce.specs.Check.{checkOf};
 ghost use Rattle.rooms.specs.Run.{Gives};
 ghost use Rattle.runner.specs.Run.{runOf};
 ghost use Rattle.trammelbud.specs.Calls.{readGraph, readDocument, readTables, readQuery, readProgram, selectOf, listOf};
-ghost use Rattle.trammelbud.specs.Parts.{answerFor, Countable};
+ghost use Rattle.trammelbud.specs.inside.Parts.{answerFor, Countable};
 
 mod list;
 mod plan;

@@ -2,9 +2,9 @@
 ghost use Prim.Native.Nat.{ℕ, _<_};
 ghost use Rattle.meaning.specs.Limits.{words};
 ghost use Rattle.meaning.specs.Operations.{answer};
-ghost use Rattle.meaning.specs.Records.{operationsIn};
-ghost use Rattle.elements.specs.Packing.{shown};
-ghost use Rattle.rooms.specs.FitToRun.{FitToRun};
+ghost use Rattle.meaning.specs.inside.Records.{operationsIn};
+ghost use Rattle.elements.specs.inside.Packing.{shown};
+ghost use Rattle.rooms.specs.inside.FitToRun.{FitToRun};
 ghost use Rattle.rooms.specs.Run.{Gives};
 ghost use Rattle.trammelbud.specs.Calls.{lists};
 use meaning::Answer;

@@ -1,12 +1,12 @@
 // The program that a query asks for: translated into a file, and read from it.
 ghost use mathlib.Core.Path.{_≡_};
 ghost use Rattle.meaning.specs.Limits.{elementLimit};
-ghost use Rattle.elements.specs.Packing.{blankPlaces};
-ghost use Rattle.files.specs.Files.{Opens};
-ghost use Rattle.translator.specs.Translatable.{AcceptedQuery};
-ghost use Rattle.translator.specs.Translate.{translatedQuery};
+ghost use Rattle.elements.specs.inside.Packing.{blankPlaces};
+ghost use Rattle.files.specs.inside.Opens.{Opens};
+ghost use Rattle.translator.specs.inside.Translatable.{AcceptedQuery};
+ghost use Rattle.translator.specs.inside.Translated.{translatedQuery};
 ghost use Rattle.trammelbud.specs.Calls.{asked};
-ghost use Rattle.trammelbud.specs.Parts.{Translated, Planned};
+ghost use Rattle.trammelbud.specs.inside.Parts.{Translated, Planned};
 use meaning::Graph;
 use meaning::Outcome;
 use meaning::Program;

@@ -18,7 +18,8 @@ use Rattle.rel.specs.Rel.{programFile, programBytes}
 use Rattle.rel.proofs.File.{program-written}
 use Rattle.rel.proofs.Encoded.{program-length}
 use Rattle.writing.specs.Lent.{stored, lent}
-use Rattle.translator.specs.Translate.{boundedProgram, translatedQuery, translatedUnder}
+use Rattle.translator.specs.inside.Translated.{translatedQuery, translatedUnder}
+use Rattle.translator.specs.Translate.{boundedProgram}
 
 pub file-length : (g : Graph) (p : XPath) → length (programBytes (translated g p)) ≡ 6 + 3 * stepCount p
 file-length g p = omega (arith, program-length (translated g p), translated-length g p)

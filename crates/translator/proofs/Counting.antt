@@ -9,7 +9,7 @@ use borrow.Author.Needs.{needs}
 use Rattle.meaning.specs.Limits.{stepLimit}
 use Rattle.meaning.specs.Queries.{XPath, Qualifier, self, child, anyChild, slash, slashes, union, filter, reached, textIs, isNot, both, either, pathCount, qualifierCount}
 use Rattle.query.specs.Qry.{pathBytes, qualifierBytes}
-use Rattle.translator.specs.Count.{fieldsOf, ownSteps, stepsIn, StepsCounted}
+use Rattle.translator.specs.inside.Count.{fieldsOf, ownSteps, stepsIn, StepsCounted}
 
 skipped : (n : ℕ) (s : List ℕ) → stepsIn n s ≡ stepsIn 0 (drop n s)
 unfolding stepsIn

@@ -26,16 +26,18 @@ use Rattle.query.specs.Qry.{queryFile, pathBytes, queryBytes}
 use Rattle.query.proofs.File.{query-read}
 use Rattle.rel.specs.Rel.{stepsBytes, programBytes}
 use Rattle.writing.specs.Lent.{Leaves, accepted, turnedAway, over, lent}
-use Rattle.writing.specs.Put.{Put}
+use Rattle.writing.specs.inside.Put.{Put}
 use Rattle.writing.proofs.Puts.{over-nothing, over-more, put-then, put-length}
 use Rattle.writing.proofs.Stored.{stored-none, stored-there}
-use Rattle.files.specs.Files.{queryUnder, Opens, OfQuery}
+use Rattle.files.specs.inside.Opens.{Opens, OfQuery}
+use Rattle.files.specs.Files.{queryUnder}
 use Rattle.files.proofs.Handed.{under-out}
 use Rattle.steps.specs.declared.Place.{Place}
-use Rattle.translator.specs.Translate.{boundedProgram, translatedQuery, translatedUnder, translation}
-use Rattle.translator.specs.Count.{stepsIn, StepsCounted}
-use Rattle.descent.specs.Dues.{path, start, Due, Done}
-use Rattle.translator.specs.Translatable.{AcceptedQuery, Translatable}
+use Rattle.translator.specs.inside.Translated.{translatedQuery, translatedUnder}
+use Rattle.translator.specs.Translate.{boundedProgram, translation}
+use Rattle.translator.specs.inside.Count.{stepsIn, StepsCounted}
+use Rattle.descent.specs.inside.Dues.{path, start, Due, Done}
+use Rattle.translator.specs.inside.Translatable.{AcceptedQuery, Translatable}
 use Rattle.translator.proofs.Counting.{path-steps}
 use Rattle.translator.proofs.Checked.{file-length, translated-stored}
 

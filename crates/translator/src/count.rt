@@ -1,7 +1,7 @@
 // How many steps a query takes, before any is written.
 ghost use mathlib.Core.Path.{_≡_};
 ghost use Prim.Native.Nat.{_≤_};
-ghost use Rattle.translator.specs.Count.{fieldsOf, ownSteps, StepsCounted};
+ghost use Rattle.translator.specs.inside.Count.{fieldsOf, ownSteps, StepsCounted};
 use crate::LIMIT;
 
 // The bytes that a node has behind its code.

@@ -4,8 +4,9 @@ mod count;
 
 ghost use lib.ListN.{length};
 ghost use Rattle.writing.specs.Lent.{Leaves};
-ghost use Rattle.translator.specs.Translate.{translatedUnder, translation};
-ghost use Rattle.translator.specs.Translatable.{AcceptedQuery, Translatable};
+ghost use Rattle.translator.specs.inside.Translated.{translatedUnder};
+ghost use Rattle.translator.specs.Translate.{translation};
+ghost use Rattle.translator.specs.inside.Translatable.{AcceptedQuery, Translatable};
 use meaning::Answer;
 use meaning::Graph;
 use meaning::Outcome;

@@ -1,7 +1,7 @@
 -- The bytes so far are those of the word.
 use Prim.Native.Nat.{_+_, _-_, _*_, _≤_}
 use Rattle.meaning.specs.Sets.{bit, mask}
-use Rattle.rows.specs.Rows.{BytesMade}
+use Rattle.rows.specs.inside.Rows.{BytesMade}
 use Rattle.rows.proofs.Words.{laws}
 use Rattle.rows.proofs.write_word.Statement.{statement}
 use Rattle.rows.proofs.write_word.Tie as tie

@@ -2,7 +2,7 @@
 use Rattle.meaning.specs.Limits.{elementLimit}
 use Rattle.edg.specs.Edg.{rowsRead}
 use Rattle.fields.specs.Read.{mapped}
-use Rattle.tables.specs.Gathered.{gatheredIn, putAll}
+use Rattle.tables.specs.inside.Gathered.{gatheredIn, putAll}
 use Rattle.tables.proofs.Tables.{Upto, table-laws}
 use Rattle.tables.proofs.read_table.Statement.{statement}
 use Rattle.tables.proofs.read_table.Tie as tie

@@ -3,7 +3,7 @@ use Prim.Native.Nat.{_-_}
 use Rattle.meaning.specs.Limits.{elementLimit}
 use Rattle.edg.specs.Edg.{tablesRead}
 use Rattle.fields.specs.Read.{mapped}
-use Rattle.tables.specs.Gathered.{gatheredIn, none, putAll}
+use Rattle.tables.specs.inside.Gathered.{gatheredIn, none, putAll}
 use Rattle.tables.proofs.Tables.{Below, tables-laws}
 use Rattle.tables.proofs.read_tables.Statement.{statement}
 use Rattle.tables.proofs.read_tables.Tie as tie

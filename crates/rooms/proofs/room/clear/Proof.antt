@@ -1,6 +1,6 @@
 -- Every byte of the room is 0.
 use Prim.Native.Nat.{_-_, _≤_}
-use Rattle.rows.specs.Rows.{BytesMade}
+use Rattle.rows.specs.inside.Rows.{BytesMade}
 use Rattle.rooms.proofs.Rooms.{clear-laws}
 use Rattle.rooms.proofs.room.clear.Statement.{statement}
 use Rattle.rooms.proofs.room.clear.Tie as tie

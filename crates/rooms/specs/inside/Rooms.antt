@@ -11,7 +11,7 @@ use Rattle.meaning.specs.Sets.{any}
 use Rattle.meaning.specs.Relations.{Relation}
 use Rattle.meaning.specs.Documents.{View, textTest}
 use Rattle.rows.specs.declared.Mix.the-variants.{First}
-use Rattle.rows.specs.Rows.{gathered, mixes, rowsAt, OthersStay}
+use Rattle.rows.specs.inside.Rows.{gathered, mixes, rowsAt, OthersStay}
 use Rattle.rooms.specs.declared.room.Test.{Test}
 use Rattle.rooms.specs.declared.room.Test.the-variants.{Always, Text, Related}
 use Rattle.rooms.specs.declared.room.Way.{Way}

@@ -8,8 +8,8 @@ use Rattle.meaning.specs.declared.Program.{Program}
 use Rattle.meaning.specs.Limits.{types, elementLimit, stepLimit}
 use Rattle.meaning.specs.Documents.{isElement}
 use Rattle.meaning.specs.Operations.{LegalProgram}
-use Rattle.meaning.specs.Records.{operationsIn}
-use Rattle.elements.specs.Packing.{shown}
+use Rattle.meaning.specs.inside.Records.{operationsIn}
+use Rattle.elements.specs.inside.Packing.{shown}
 
 -- so many are kept, a parent is a node, and an element's kind a type
 pub record Nodes (kept : List ℕ) (count : ℕ) : Type 0 where

@@ -4,10 +4,10 @@ use mathlib.Core.List.{List, []}
 use lib.ListN.{length}
 use Rattle.meaning.specs.declared.Operation.{Operation}
 use Rattle.meaning.specs.Limits.{words}
-use Rattle.meaning.specs.Records.{programOf}
+use Rattle.meaning.specs.inside.Records.{programOf}
 use Rattle.fields.specs.declared.Field.{Field}
-use Rattle.fields.specs.Read.{Read, readOf}
-use Rattle.fields.specs.Outcomes.{outcomeOf, valueOr}
+use Rattle.fields.specs.Read.{Read}
+use Rattle.fields.specs.inside.Outcomes.{outcomeOf, valueOr, readOf}
 use Rattle.rel.specs.declared.Layout.{Layout}
 use Rattle.rel.specs.declared.Layout.the-variants.{Zeros, Single, Pair, Number, Mask}
 use Rattle.rel.specs.Rel.{layouts, layoutOf}

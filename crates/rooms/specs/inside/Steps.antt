@@ -9,10 +9,10 @@ use Rattle.meaning.specs.Limits.{roomBytes, stepLimit}
 use Rattle.meaning.specs.Lists.{table}
 use Rattle.meaning.specs.Relations.{Relation}
 use Rattle.meaning.specs.Operations.{LegalOperation}
-use Rattle.rows.specs.Rows.{rowsAt}
-use Rattle.elements.specs.Packing.{shown}
-use Rattle.rooms.specs.FitToRun.{Nodes}
-use Rattle.rooms.specs.Rooms.{RowWidth}
+use Rattle.rows.specs.inside.Rows.{rowsAt}
+use Rattle.elements.specs.inside.Packing.{shown}
+use Rattle.rooms.specs.inside.FitToRun.{Nodes}
+use Rattle.rooms.specs.inside.Rooms.{RowWidth}
 
 -- the relations of the first n rooms of the work area
 unfoldable pub roomsIn : ℕ → List ℕ → ℕ → List Relation

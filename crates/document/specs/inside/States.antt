@@ -4,8 +4,9 @@ use mathlib.Core.Path.{_≡_}
 use mathlib.Core.List.{List}
 use lib.ListN.{length}
 use Rattle.meaning.specs.Limits.{elementLimit}
-use Rattle.fields.specs.Read.{Read, beside}
-use Rattle.elements.specs.Packing.{keptIn}
+use Rattle.fields.specs.inside.Outcomes.{beside}
+use Rattle.fields.specs.Read.{Read}
+use Rattle.elements.specs.inside.Packing.{keptIn}
 use Rattle.tre.specs.Tre.{Open}
 use Rattle.document.specs.declared.Standing.{Standing}
 use Rattle.document.specs.declared.Turn.{Turn}

@@ -3,7 +3,7 @@ use lib.ListN.{replicate}
 use Rattle.meaning.specs.declared.Graph.{Graph}
 use Rattle.meaning.specs.Limits.{types}
 use Rattle.fields.specs.Read.{Read}
-use Rattle.fields.specs.Outcomes.{outcomeOf, valueOr}
+use Rattle.fields.specs.inside.Outcomes.{outcomeOf, valueOr}
 use Rattle.graph.specs.declared.GraphRead.{GraphRead}
 
 -- what stands in the place of a graph that was not read

@@ -9,7 +9,8 @@ use Rattle.meaning.specs.Queries.{XPath}
 use Rattle.fields.specs.declared.Cursor.{Cursor}
 use Rattle.fields.specs.declared.Field.{Field}
 use Rattle.fields.specs.declared.Field.the-variants.{Got, Refused}
-use Rattle.fields.specs.Read.{Read, got, refused, readOf}
+use Rattle.fields.specs.inside.Outcomes.{readOf}
+use Rattle.fields.specs.Read.{Read, got, refused}
 use Rattle.query.specs.declared.QueryRead.{QueryRead}
 use Rattle.query.specs.Qry.{Sort, part}
 

@@ -6,7 +6,7 @@ use lib.ListN.{length, take, replicate}
 use Rattle.meaning.specs.declared.Element.{Element}
 use Rattle.meaning.specs.Documents.{View, view}
 use Rattle.fields.specs.Read.{Read}
-use Rattle.fields.specs.Outcomes.{outcomeOf, valueOr}
+use Rattle.fields.specs.inside.Outcomes.{outcomeOf, valueOr}
 use Rattle.elements.specs.declared.ElementsRead.{ElementsRead}
 
 -- an element in 32 bits: parent, type and text number, from the highest bits down

@@ -11,7 +11,7 @@ use Rattle.meaning.specs.Translation.{Adds, image, only, together, orReachable,
 use Rattle.fields.specs.Read.{pick}
 use Rattle.steps.specs.declared.Place.{Place}
 use Rattle.steps.specs.declared.Operator.{Operator}
-use Rattle.steps.specs.Writes.{applied, onto, Goes, Room, Behind}
+use Rattle.steps.specs.inside.Writes.{applied, onto, Goes, Room, Behind}
 use Rattle.descent.specs.declared.rows.Leaf.{Leaf}
 use Rattle.descent.specs.declared.rows.Ending.{Ending}
 use Rattle.descent.specs.declared.rows.Second.{Second}

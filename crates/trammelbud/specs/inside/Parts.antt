@@ -12,10 +12,10 @@ use Rattle.meaning.specs.declared.Program.{Program}
 use Rattle.meaning.specs.Limits.{words, stepLimit}
 use Rattle.meaning.specs.Queries.{selected}
 use Rattle.meaning.specs.Operations.{LegalProgram, answer}
-use Rattle.meaning.specs.Records.{operationsIn}
+use Rattle.meaning.specs.inside.Records.{operationsIn}
 use Rattle.writing.specs.Lent.{accepted, turnedAway}
-use Rattle.elements.specs.Packing.{shown}
-use Rattle.rooms.specs.FitToRun.{FitToRun}
+use Rattle.elements.specs.inside.Packing.{shown}
+use Rattle.rooms.specs.inside.FitToRun.{FitToRun}
 use Rattle.trammelbud.specs.Calls.{Asked}
 
 -- what is answered for a count, by how reading came out

@@ -6,9 +6,10 @@ use lib.ListN.{length, getD, set, replicate}
 use Rattle.meaning.specs.declared.Element.{Element}
 use Rattle.meaning.specs.Limits.{small, elementLimit}
 use Rattle.meaning.specs.Documents.{documentNode, node}
-use Rattle.fields.specs.Read.{Read, beside}
+use Rattle.fields.specs.inside.Outcomes.{beside}
+use Rattle.fields.specs.Read.{Read}
 use Rattle.fields.specs.declared.Field.{Field}
-use Rattle.elements.specs.Packing.{elementIn, keptIn}
+use Rattle.elements.specs.inside.Packing.{elementIn, keptIn}
 use Rattle.edg.specs.declared.Row.{Row}
 
 -- the bytes of a row: two numbers of nodes and a text number

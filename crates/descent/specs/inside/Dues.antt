@@ -11,7 +11,7 @@ use Rattle.meaning.specs.Translation as translation
 use Rattle.meaning.specs.Translation.{Adds}
 use Rattle.query.specs.Qry.{pathBytes, qualifierBytes}
 use Rattle.steps.specs.declared.Place.{Place}
-use Rattle.steps.specs.Writes.{Goes, Room}
+use Rattle.steps.specs.inside.Writes.{Goes, Room}
 
 -- the descent begins behind the query's header, at the document node
 abbrev pub start : Place

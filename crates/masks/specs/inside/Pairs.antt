@@ -1,24 +1,18 @@
--- Announcements as relations on kinds, and what an operation reads.
+-- Relations on kinds, and what an operation reads.
 use Prim.Native.Nat.{ℕ, _≤_}
 use mathlib.Core.Bool.{Bool, _&&_}
-use lib.ListN.{getD}
 use Rattle.meaning.specs.declared.Graph.{Graph}
 use Rattle.meaning.specs.declared.Operation.{Operation}
 use Rattle.meaning.specs.declared.Operation.the-variants.{Table, Itself, Text, Join, Union, Closure, Has, Diff, Both}
 use Rattle.meaning.specs.declared.Program.{Program}
 use Rattle.meaning.specs.Limits.{kinds, stepLimit}
-use Rattle.meaning.specs.Sets.{any, bit}
+use Rattle.meaning.specs.Sets.{any}
 use Rattle.meaning.specs.Relations.{Relation, join, unite, intersection}
 use Rattle.meaning.specs.Graphs.{LegalGraph}
 use Rattle.meaning.specs.Operations.{LegalProgram}
-use Rattle.meaning.specs.Records.{operationsIn}
-use Rattle.masks.specs.declared.Announced.{Announced}
+use Rattle.meaning.specs.inside.Records.{operationsIn}
 use Rattle.masks.specs.declared.Mix.{Mix}
 use Rattle.masks.specs.declared.Mix.the-variants as mix
-
--- (A, B) is announced when mask A has bit B
-unfoldable pub relOf : Announced → Relation
-relOf a A B = bit (getD (a .pairs) A 0) B
 
 -- two relations, mixed
 abbrev pub mixture : Mix → Relation → Relation → Relation
