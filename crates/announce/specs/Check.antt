@@ -1,4 +1,4 @@
--- The check: it reads the graph and the program, and hands back one set of kinds for each of 17 kinds, for each step.
+-- The check of a program under a graph: its answer has 17 sets of kinds for every step, one per kind.
 use Prim.Native.Nat.{ℕ}
 use mathlib.Core.List.{List}
 use lib.ListN.{replicate}

@@ -19,7 +19,7 @@ use Rattle.writing.specs.Lent.{Lent, accepted, stored, lent, fileIn}
 use Rattle.writing.proofs.Stored.{stored-there, stored-file}
 use Rattle.files.proofs.Handed.{under-got, mapped-got}
 use Rattle.shredder.specs.Shred.{tablesLength}
-use Rattle.shredder.proofs.TablesFile.{tables-length}
+use Rattle.shredder.proofs.Whole.{tables-length}
 use Rattle.rebuilder.specs.Rebuild.{documentLength}
 use Rattle.rebuilder.proofs.Closes.{document-length}
 use Rattle.convert.specs.Convert.{shredded, rebuilt}

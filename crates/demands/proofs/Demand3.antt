@@ -22,7 +22,7 @@ use Rattle.masks.specs.Announcement.{announcement}
 use Rattle.files.specs.Files.{under}
 use Rattle.files.proofs.Handed.{under-got, mapped-got}
 use Rattle.announce.specs.Check.{checked, checkOf}
-use Rattle.announce.proofs.Checks.{check-shows}
+use Rattle.announce.proofs.Checking.{check-shows}
 use Rattle.writing.specs.Lent.{fileIn}
 use Rattle.rooms.specs.Layout.{joined}
 use Rattle.runner.specs.Run.{runOf}

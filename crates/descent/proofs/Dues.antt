@@ -14,7 +14,7 @@ use Rattle.meaning.proofs.Runs.{longer-length}
 use Rattle.meaning.proofs.Counts.{path-length, path-longer, qualifier-length, qualifier-longer}
 use Rattle.steps.specs.declared.Place.{Place}
 use Rattle.steps.specs.declared.Operator.{Operator}
-use Rattle.steps.specs.inside.Writes.{applied, onto, Goes, Room, Behind}
+use Rattle.steps.specs.inside.Writes.{applied, onto, Goes, StepsFit, Behind}
 use Rattle.steps.proofs.Laws.{onto-goes, after-goes, goes-as, room-less}
 use Rattle.descent.specs.declared.rows.Leaf.{Leaf}
 use Rattle.descent.specs.declared.rows.Ending.{Ending}
@@ -80,7 +80,7 @@ module _ {g : Graph} {s : List ℕ} {n : ℕ} {from : Place} (d : Due g s n from
 
 -- A part that stands where another was due before is due there too.
 abbrev due-part : {g : Graph} {s : List ℕ} {room n : ℕ} {from : Place} → Due g s room from → (to : Place) (p : Part (g .k)) (rest : List ℕ)
-    → drop (to .at) s ≡ bytesOf p ++ rest → to .kinds < 2 ^ kinds → Room (weight p) n (to .steps) → Due g s n to
+    → drop (to .at) s ≡ bytesOf p ++ rest → to .kinds < 2 ^ kinds → StepsFit (weight p) n (to .steps) → Due g s n to
 due-part d to p rest S k r = record { graph = d .graph; short = d .short; kinds = k; part = p; rest = rest; stands = S; enough = r }
 
 -- No part.

@@ -84,7 +84,7 @@ impl Standing {
         }
     }
 
-    // After 01: the type, then the text.
+    // After 0x01: the type, then the text.
     fn opened(self, kept: &mut [u32], s: &[u8], g: Graph, c: Cursor) -> Turn
         requires { ⌜ HasRoom (now kept) self × (self .count < elementLimit) ⌝ }
         ensures { λ r. ⌜ OpenRead (λ o. o) (now (kept .exit)) r (opened g (openIn (now (kept .entry)) self) (now (s .entry)) (c .at)) ⌝ }
@@ -101,7 +101,7 @@ impl Standing {
         Turn { state, next }
     }
 
-    // After 02: the parent is the innermost again.
+    // After 0x02: the parent is the innermost again.
     fn popped(self, kept: &[u32]) -> Standing
         requires { ⌜ HasRoom (now kept) self ⌝ }
         ensures { λ r. ⌜ HasRoom (now (kept .entry)) r × (openIn (now (kept .entry)) r ≡ popped (openIn (now (kept .entry)) self)) ⌝ }

@@ -123,10 +123,10 @@ module _ (g : Graph) (es : List Element) where
   Rules i = (parentRule (view es) i ≡ true) × (edgeRule g (view es) i ≡ true)
 
   -- n elements from element i on keep to the rules
-  abbrev Kept : ℕ → ℕ → Type 0
-  Kept i n = (j : ℕ) → i ≤ j → j < i + n → Rules j
+  abbrev RulesKept : ℕ → ℕ → Type 0
+  RulesKept i n = (j : ℕ) → i ≤ j → j < i + n → Rules j
 
-  takes-elements : (i n : ℕ) → Takes (elementsJudged g es i n) (λ _. []) (λ _. Kept i n)
+  takes-elements : (i n : ℕ) → Takes (elementsJudged g es i n) (λ _. []) (λ _. RulesKept i n)
   unfolding elementsJudged elementJudged
   takes-elements i zero = accepts-give (refl, λ j p l. absurd (omega arith))
   takes-elements i (suc n) =
@@ -134,7 +134,7 @@ module _ (g : Graph) (es : List Element) where
       takes-weaken (takes-elements (suc i) n) λ _ later.
       (refl, λ j p l. ⊎-elim (λ e. subst Rules e rules) (λ m. later j m (omega arith)) (eq-or-lt-of-le p))
 
-  reads-elements : (i n : ℕ) → Kept i n → Reads (elementsJudged g es i n) [] tt
+  reads-elements : (i n : ℕ) → RulesKept i n → Reads (elementsJudged g es i n) [] tt
   unfolding elementsJudged elementJudged
   reads-elements i zero kept = reads-give tt
   reads-elements i (suc n) kept =
@@ -283,7 +283,7 @@ module _ {limit : ℕ} {g : Graph} {es : List Element} (legal : LegalGraph g) (a
       let numbers = ones-in (length rows) (λ i. times (suc i) rows) all-once in
       rw rows-place (reads-bind _ (reads-here Number numbers) (reads-bind _ (reads-elements g es 1 (length rows) kept) (reads-give es)))
     where
-      kept : Kept g es 1 (length rows)
+      kept : RulesKept g es 1 (length rows)
       kept j p l = (accepted .parents j p (omega (arith, rows-count)), accepted .edges j p (omega (arith, rows-count)))
 
   pub tables-written : tablesFile limit g (tablesBytes g es) 0 ≡ got es (length (tablesBytes g es))

@@ -1,2 +1,2 @@
--- The element record.
+-- How elements are kept.
 pub mod inside

@@ -1,4 +1,4 @@
--- The announcement of a program: for each step, one set of kinds for each of 17 kinds.
+-- The announcement of a program: every step has 17 sets of kinds, one per kind.
 use Prim.Native.Nat.{_-_}
 use mathlib.Core.List.{List, _++_, map}
 use lib.ListN.{length, getD, replicate}

@@ -29,7 +29,7 @@ use Rattle.meaning.proofs.Sound.{announced-live, run-announced, none-se
 pub closure-is-one-or-more : (n : ℕ) (r : Relation) → On n r → (v w : ℕ) → closure n r v w ≡ true ↔ OneOrMore r v w
 closure-is-one-or-more n r on v w = (closure-sound n r, closure-complete n r on)
 
--- The step count is the query's nodes, plus five for each // and one for each not; and so many steps are written.
+-- A query has a step for each of its nodes, five more per // and one more per not; and so many steps are written.
 pub step-count : (p : XPath) → stepCount p ≡ queryNodes p + 5 * slashesOf p + notsOf p
 unfolding stepCount queryNodes
 step-count p = count-split p

@@ -1,4 +1,4 @@
--- Document 01 in its own order, but for what is about a file's bytes.
+-- The rules of docs/RULES.md as definitions, but for what is about a file's bytes.
 pub mod Limits
 pub mod Sets
 pub mod Lists

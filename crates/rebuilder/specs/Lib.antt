@@ -1,3 +1,3 @@
--- How long a document file is, and what the rebuilder's functions ask of each other.
+-- How long a document file is.
 pub mod Rebuild
 pub mod inside

@@ -17,7 +17,7 @@ use Rattle.rows.specs.declared.Mix.the-variants.{Either, First}
 use Rattle.rows.specs.inside.Rows.{inRow, Bits, gathered, mixes, rowsAt, OthersStay, Next, mixedRows}
 use Rattle.rows.proofs.Bytes.{kept-all, kept-inside}
 use Rattle.rows.proofs.Searches.{some-below}
-use Rattle.rooms.specs.inside.Rooms.{upTo, changed, Places, RoomMade, Taken, Grown, Swept, Closable}
+use Rattle.rooms.specs.inside.Rooms.{upTo, changed, Places, RoomMade, TakenIn, Grown, Swept, Closable}
 use Rattle.rooms.proofs.Changes.{changed-here, upTo-all}
 use Rattle.rooms.proofs.Rooms.{room-on, operands-kept, places-kept, row-first, made-as, made-after}
 use Rattle.rooms.proofs.Turns.{room-small, gathered-wide}
@@ -27,7 +27,7 @@ module _ (width : ℕ) where
   pub row-taken : {xs ys before row after added : List ℕ} {base a v first : ℕ} → Places width (length xs) base a a (rowBits width)
       → Bits before (rowsAt width xs base v) → Bits row (rowsAt width xs a v) → Bits after (gathered (rowBits (small .row)) (rowsAt (small .row) xs base) (inRow row) (inRow before))
       → RoomMade width xs ys base (changed v (inRow after) (rowsAt width xs base)) → Bits added (λ w. mixes First (inRow after w) (inRow before w))
-      → Next (rowBits (small .row)) (inRow added) 0 first → Taken width xs ys base a v (ltb first (rowBits width))
+      → Next (rowBits (small .row)) (inRow added) 0 first → TakenIn width xs ys base a v (ltb first (rowBits width))
   unfolding gathered changed
   row-taken {xs} {ys} {before} {row} {after} {base = base} {a} {v} p b r g k m n =
       let now = gathered-wide width xs base (inRow row) (inRow before) (p .sized) g in
@@ -53,7 +53,7 @@ module _ (width : ℕ) where
     pub sweeps-places : Places width (length xs) base a a (rowBits width)
     sweeps-places = let p = places-kept width (n .others) (n .places) in record { sized = p .sized; room = p .room; left = p .left; right = p .right; few = omega arith }
 
-    pub sweeps-more : {ys : List ℕ} {t : Bool} {first : ℕ} → 0 < v → Taken width xs ys base a (v - 1) t → Next (rowBits width) (rowsAt width ys a (v - 1)) 0 first
+    pub sweeps-more : {ys : List ℕ} {t : Bool} {first : ℕ} → 0 < v → TakenIn width xs ys base a (v - 1) t → Next (rowBits width) (rowsAt width ys a (v - 1)) 0 first
         → Sweeps old ys base a size (v - 1) (g || t) (k || leb first (v - 1))
     sweeps-more {ys} {first = first} l m e =
         let q : v ≡ v - 1 + 1 = omega arith in

@@ -13,7 +13,7 @@ ghost use Rattle.meaning.specs.Operations.{rows};
 ghost use Rattle.rows.specs.inside.Rows.{inRow, Bits, rowsAt, mixedRows};
 ghost use Rattle.elements.specs.inside.Packing.{shown};
 ghost use Rattle.rooms.specs.inside.FitToRun.{Nodes};
-ghost use Rattle.rooms.specs.inside.Rooms.{RowWidth, upTo, columns, starting, passing, combined, Places, Testable, RoomMade, Taken, Swept, Closable};
+ghost use Rattle.rooms.specs.inside.Rooms.{RowWidth, upTo, columns, starting, passing, combined, Places, Testable, RoomMade, TakenIn, Swept, Closable};
 use crate::row;
 use numbers::u8_to_usize;
 use rows::Mix;
@@ -199,7 +199,7 @@ pub(crate) fn join(work: &mut [u8], base: usize, a: usize, b: usize, size: usize
 // The row of v takes in those rows of the room at base that the room at a names for v. Whether it grew.
 fn take_in(work: &mut [u8], base: usize, a: usize, v: usize, width: usize) -> bool
     requires { ⌜ Places width (length (now work)) base a a (rowBits width) × (v < rowBits width) ⌝ }
-    ensures { λ r. ⌜ Taken width (now (work .entry)) (now (work .exit)) base a v r ⌝ }
+    ensures { λ r. ⌜ TakenIn width (now (work .entry)) (now (work .exit)) base a v r ⌝ }
 {
     let before = row::read(work, base, v, width);
     let after = rows::gather(work, base, row::read(work, a, v, width), before);

@@ -1,3 +1,3 @@
--- How long a tables file is, and what the shredder's functions ask of each other.
+-- How long a tables file is.
 pub mod Shred
 pub mod inside

@@ -11,7 +11,7 @@ use Rattle.meaning.specs.Translation as translation
 use Rattle.meaning.specs.Translation.{Adds}
 use Rattle.query.specs.Qry.{pathBytes, qualifierBytes}
 use Rattle.steps.specs.declared.Place.{Place}
-use Rattle.steps.specs.inside.Writes.{Goes, Room}
+use Rattle.steps.specs.inside.Writes.{Goes, StepsFit}
 
 -- the descent begins behind the query's header, at the document node
 abbrev pub start : Place
@@ -47,7 +47,7 @@ pub record Due (g : Graph) (s : List ℕ) (room : ℕ) (from : Place) : Type 0 w
   pub part : Part (g .k)
   pub rest : List ℕ
   pub stands : drop (from .at) s ≡ bytesOf part ++ rest
-  pub enough : Room (weight part) room (from .steps)
+  pub enough : StepsFit (weight part) room (from .steps)
 
 -- whichever part was due is translated
 pub record Done (g : Graph) (s old new : List ℕ) (from to : Place) : Type 0 where

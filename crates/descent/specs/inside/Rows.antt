@@ -11,7 +11,7 @@ use Rattle.meaning.specs.Translation.{Adds, image, only, together, orReachable,
 use Rattle.fields.specs.Read.{pick}
 use Rattle.steps.specs.declared.Place.{Place}
 use Rattle.steps.specs.declared.Operator.{Operator}
-use Rattle.steps.specs.inside.Writes.{applied, onto, Goes, Room, Behind}
+use Rattle.steps.specs.inside.Writes.{applied, onto, Goes, StepsFit, Behind}
 use Rattle.descent.specs.declared.rows.Leaf.{Leaf}
 use Rattle.descent.specs.declared.rows.Ending.{Ending}
 use Rattle.descent.specs.declared.rows.Second.{Second}
@@ -69,7 +69,7 @@ pub record LeafDue (leaf : Leaf) (g : Graph) (s : List ℕ) (room : ℕ) (from :
   pub here : from .at ≤ length s
   pub inside : leafEnd leaf (from .at) ≤ length s
   pub type : Typed leaf (g .k) (drop (from .at) s)
-  pub enough : Room 1 room (from .steps)
+  pub enough : StepsFit 1 room (from .steps)
 
 -- the step is written
 abbrev pub Leads : Leaf → Graph → List ℕ → List ℕ → List ℕ → Place → Place → Type 0

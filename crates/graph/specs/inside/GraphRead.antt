@@ -1,4 +1,4 @@
--- What is handed on of a reading of the GRA file.
+-- What is handed on of a reading of the graph file.
 use lib.ListN.{replicate}
 use Rattle.meaning.specs.declared.Graph.{Graph}
 use Rattle.meaning.specs.Limits.{types}

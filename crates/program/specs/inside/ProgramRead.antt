@@ -1,4 +1,4 @@
--- What is handed on of a reading of the REL file; after it, what the inner functions answer and ask for.
+-- What is handed on of a reading of the program file; after it, what the functions behind it answer and ask for.
 use Prim.Native.Nat.{ℕ, _<_, _≤_}
 use mathlib.Core.List.{List, []}
 use lib.ListN.{length}

@@ -75,7 +75,7 @@ pub record RoomMade (width : ℕ) (old new : List ℕ) (base : ℕ) (r : Relatio
 
 -- The row of v in the room at base has taken in the rows of those that the room at a relates v to; grew says whether it
 -- has more for it.
-pub record Taken (width : ℕ) (old new : List ℕ) (base a v : ℕ) (grew : Bool) : Type 0 where
+pub record TakenIn (width : ℕ) (old new : List ℕ) (base a v : ℕ) (grew : Bool) : Type 0 where
   pub row : RoomMade width old new base (changed v (gathered (rowBits width) (rowsAt width old base) (rowsAt width old a v) (rowsAt width old base v)) (rowsAt width old base))
   pub more : grew ≡ any (rowBits width) (λ w. mixes First (rowsAt width new base v w) (rowsAt width old base v w))
 

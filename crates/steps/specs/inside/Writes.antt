@@ -32,32 +32,32 @@ pub record Holds (base : List ℕ) (os : List Operation) (n : ℕ) (out : List �
   pub count : n ≡ length os
 
 -- whichever n steps the buffer held, it holds m now, which a made of them
-pub record Writes (a : Adds) (n m : ℕ) (old new : List ℕ) : Type 0 where
+pub record WritesSteps (a : Adds) (n m : ℕ) (old new : List ℕ) : Type 0 where
   pub writes : (base : List ℕ) (os : List Operation) → Holds base os n old → Holds base (a os) m new
 
 -- behind n steps those of a are written, so many; the query goes on at next, under the kinds C
 pub record Goes (a : Adds) (more C next : ℕ) (old new : List ℕ) (n : ℕ) (to : Place) : Type 0 where
-  pub writes : Writes a n (to .steps) old new
+  pub writes : WritesSteps a n (to .steps) old new
   pub steps : to .steps ≡ n + more
   pub kinds : to .kinds ≡ C
   pub at : to .at ≡ next
   pub same : length new ≡ length old
 
 -- so many steps behind n are not too many, and the buffer has room for them
-pub record Room (more room n : ℕ) : Type 0 where
+pub record StepsFit (more room n : ℕ) : Type 0 where
   pub few : n + more ≤ stepLimit
   pub fits : 6 + 3 * (n + more) ≤ room
 
 -- so many, of which the first has a mask of types
 pub record Masked (more room types n : ℕ) : Type 0 where
   pub mask : types < words
-  pub enough : Room more room n
+  pub enough : StepsFit more room n
 
 -- so many behind the right place, with the last step of each place as operands
 pub record Behind (more room : ℕ) (left right : Place) : Type 0 where
   pub some : 1 ≤ left .steps
   pub later : left .steps ≤ right .steps
-  pub enough : Room more room (right .steps)
+  pub enough : StepsFit more room (right .steps)
 
 -- the five behind a left part of //, the first with these types as mask
 pub record Descending (types room : ℕ) (left : Place) : Type 0 where

@@ -1,4 +1,4 @@
--- What the reader keeps of the rows so far, and how its functions' answers say what was read: for contracts inside this crate.
+-- What the reader keeps of the rows so far, and how its functions' answers say what was read.
 use Prim.Native.Nat.{ℕ, _+_, _*_, _-_, _≤_, _<_}
 use mathlib.Core.Path.{_≡_}
 use mathlib.Core.List.{List, [], _∷_, map}

@@ -1,4 +1,4 @@
--- What the functions of this crate rely on: for contracts inside the library.
+-- What the functions of this crate rely on.
 use Prim.Native.Nat.{ℕ, _≤_, _<_}
 use mathlib.Core.List.{List}
 use lib.ListN.{length}

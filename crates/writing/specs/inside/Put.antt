@@ -1,4 +1,4 @@
--- What a field writer does: for contracts between the rooms that write.
+-- What a field writer does.
 use Prim.Native.Nat.{ℕ, _+_}
 use mathlib.Core.Path.{_≡_}
 use mathlib.Core.List.{List}
