@@ -1,12 +1,12 @@
--- The check: it reads the graph and the program, and hands back one set of kinds for each of 17 kinds, for each step.
+-- The check of a program under a graph: its answer has 17 sets of kinds for every step, one per kind.
 use Prim.Native.Nat.{ℕ}
 use mathlib.Core.List.{List}
 use lib.ListN.{replicate}
 use Rattle.meaning.specs.Limits.{stepLimit}
 use Rattle.meaning.specs.Relations.{nothing}
 use Rattle.meaning.specs.Refused.{numberOf}
-use Rattle.fields.specs.Read.{Read, got, refused}
-use Rattle.files.specs.Files.{mapped, programUnder}
+use Rattle.fields.specs.Read.{Read, got, refused, mapped}
+use Rattle.files.specs.Files.{programUnder}
 use Rattle.masks.specs.declared.Announced.{Announced}
 use Rattle.masks.specs.Announcement.{announcedSets, announcement}
 use Rattle.announce.specs.declared.Checked.{Checked}

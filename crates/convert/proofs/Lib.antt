@@ -1,3 +1,2 @@
--- The laws behind the conversions of files, and the round trips.
-pub mod Answers
-pub mod RoundTrips
+-- The laws behind the conversions of files.
+pub mod Conversions

@@ -5,7 +5,8 @@ use mathlib.Core.List.{List}
 use Rattle.tre.specs.Tre.{documentBytes}
 use Rattle.edg.specs.Edg.{tablesBytes}
 use Rattle.writing.specs.Lent.{Lent, lent}
-use Rattle.files.specs.Files.{mapped, documentUnder, tablesUnder}
+use Rattle.fields.specs.Read.{mapped}
+use Rattle.files.specs.Files.{documentUnder, tablesUnder}
 
 unfoldable pub shredded : List ℕ → List ℕ → List ℕ → Lent
 shredded gra tre out = lent (mapped (λ x. tablesBytes (x .0) (x .1)) (documentUnder gra tre)) out

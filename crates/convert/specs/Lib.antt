@@ -1,3 +1,2 @@
--- The shredder and the rebuilder over files, and what is promised of the two together.
+-- The shredder and the rebuilder over files.
 pub mod Convert
-pub mod RoundTrips

@@ -14,13 +14,13 @@ use Rattle.meaning.specs.Limits.{elementLimit, queryLimit, stepLimit}
 use Rattle.meaning.specs.Documents.{view}
 use Rattle.meaning.specs.Queries.{XPath, queryNodes}
 use Rattle.meaning.specs.Translation.{translated, stepCount}
-use Rattle.fields.specs.Read.{got, refused}
+use Rattle.fields.specs.Read.{got, refused, mapped}
 use Rattle.edg.specs.Edg.{tablesFile}
 use Rattle.query.specs.Qry.{queryFile}
-use Rattle.files.specs.Files.{mapped, then, tablesThenQuery}
+use Rattle.files.specs.Files.{followedBy, tablesThenQuery}
 use Rattle.files.proofs.Handed.{under-got, then-got}
 use Rattle.rooms.specs.Run.{Ran}
-use Rattle.translator.specs.Translate.{programOf}
+use Rattle.translator.specs.Translate.{boundedProgram}
 use Rattle.trammelbud.specs.Calls.{Asked, asked, askedOr}
 use Rattle.demands.specs.Demands.{GraphFile, TablesFile, QueryFile}
 use Rattle.demands.proofs.Readings.{graph-got, tables-got, query-got}
@@ -32,15 +32,15 @@ asks g es p = record { view = view es; path = p; program = translated g p }
 module _ {gra : List ℕ} {g : Graph} (graph : GraphFile g gra) {edg qry : List ℕ} {es : List Element} {p : XPath} (tables : TablesFile g es edg) (query : QueryFile g p qry) where
   both-read : tablesThenQuery gra edg qry ≡ got (g, (es, (p, queryLimit - queryNodes p))) (length qry)
   both-read =
-      under-got gra (λ g. then (tablesFile elementLimit g edg 0) (queryFile (g .k) qry 0)) (graph-got graph)
+      under-got gra (λ g. followedBy (tablesFile elementLimit g edg 0) (queryFile (g .k) qry 0)) (graph-got graph)
       (then-got (tablesFile elementLimit g edg 0) (queryFile (g .k) qry 0) (tables-got (graph .legal) tables) (query-got query))
 
   pub few-asked : stepCount p ≤ stepLimit → asked gra edg qry ≡ got (asks g es p) (length qry)
-  unfolding asked programOf mapped
+  unfolding asked boundedProgram mapped
   few-asked few = rw (both-read, le-leb (stepCount p) stepLimit few)
 
   many-asked : stepLimit < stepCount p → asked gra edg qry ≡ refused (record { reason = Steps })
-  unfolding asked programOf mapped
+  unfolding asked boundedProgram mapped
   many-asked many = rw (both-read, lt-leb (stepCount p) stepLimit many)
 
   -- a call that accepts was asked so

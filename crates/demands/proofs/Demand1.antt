@@ -20,7 +20,7 @@ use Rattle.meaning.specs.Translation.{translated, stepCount}
 use Rattle.meaning.proofs.Theorems.{step-count-written}
 use Rattle.meaning.proofs.Views.{accepted-keeps}
 use Rattle.meaning.proofs.KindSets.{edge-types}
-use Rattle.fields.specs.Read.{Read, got, refused, bind}
+use Rattle.fields.specs.Read.{Read, got, refused, bind, mapped}
 use Rattle.fields.specs.Write.{Bytes}
 use Rattle.fields.proofs.Formats.{bind-out, pick-out, got-same}
 use Rattle.graph.specs.Gra.{graphFile}
@@ -28,20 +28,20 @@ use Rattle.tre.specs.Tre.{documentBytes}
 use Rattle.edg.specs.Edg.{tablesFile, tablesBytes}
 use Rattle.query.specs.Qry.{queryFile}
 use Rattle.rel.specs.Rel.{programBytes}
-use Rattle.files.specs.Files.{under, mapped, documentUnder, tablesUnder, queryUnder, programUnder, tablesThenProgram, tablesThenQuery, then}
+use Rattle.files.specs.Files.{under, documentUnder, tablesUnder, queryUnder, programUnder, tablesThenProgram, tablesThenQuery, followedBy}
 use Rattle.files.proofs.Handed.{mapped-got}
 use Rattle.writing.specs.Lent.{Lent, lent}
 use Rattle.convert.specs.Convert.{shredded, rebuilt}
 use Rattle.masks.specs.Announcement.{announcement}
 use Rattle.announce.specs.declared.Checked.{Checked}
 use Rattle.announce.specs.Check.{checkOf}
-use Rattle.rows.proofs.Answers.{tally-most}
+use Rattle.rows.proofs.Tallies.{tally-most}
 use Rattle.rooms.specs.Run.{Ran, performed}
 use Rattle.runner.specs.Run.{ran, toRun, runOf}
 use Rattle.runner.proofs.Theorems.{few-nodes}
 use Rattle.text.specs.Listing.{listing, listingRoom}
 use Rattle.text.proofs.LineLaws.{listing-most}
-use Rattle.translator.specs.Translate.{programOf, translation}
+use Rattle.translator.specs.Translate.{boundedProgram, translation}
 use Rattle.trammelbud.specs.Calls.{answerOf, readGraph, readDocument, readTables, readQuery, readProgram, Asked, asking, asked, askedOr, chosen, selectOf, told, listOf}
 use Rattle.trammelbud.proofs.Lists.{kinds-small}
 use Rattle.trammelbud.proofs.Outcomes.{tb-read-graph, tb-read-document, tb-read-tables, tb-read-query, tb-read-program, tb-shred, tb-rebuild, tb-translate, tb-check, tb-run, tb-select, tb-list}
@@ -61,12 +61,12 @@ mapped-out f e h =
     (x, p ∙ ap (got x) end, same)
 
 -- a query has a program where its steps are few, and that one
-program-came : (g : Graph) (p : XPath) (n : ℕ) → stepCount p ≤ stepLimit → programOf g p n ≡ got (translated g p) n
-unfolding programOf
+program-came : (g : Graph) (p : XPath) (n : ℕ) → stepCount p ≤ stepLimit → boundedProgram g p n ≡ got (translated g p) n
+unfolding boundedProgram
 program-came g p n few = rw (le-leb (stepCount p) stepLimit few)
 
-program-back : (g : Graph) (p : XPath) (m : ℕ) {os : List Operation} {n : ℕ} → programOf g p m ≡ got os n → (stepCount p ≤ stepLimit) × (translated g p ≡ os)
-unfolding programOf
+program-back : (g : Graph) (p : XPath) (m : ℕ) {os : List Operation} {n : ℕ} → boundedProgram g p m ≡ got os n → (stepCount p ≤ stepLimit) × (translated g p ≡ os)
+unfolding boundedProgram
 program-back g p m h = let (few, is) = pick-out _ _ _ h in (leb-true (stepCount p) stepLimit few, got-same is .0)
 
 -- what a run and what the calls on a query leave, by their readings
@@ -165,7 +165,7 @@ module _ {gra : List ℕ} (bytes : Bytes gra) where
       (λ x. length (programBytes (translated (x .0) (x .1)))) out l
   unfolding translation
   translate-writes {qry} {out} {l} more c =
-      let e = bind (queryUnder gra qry) λ x at. mapped programBytes (programOf (x .0) (x .1 .0) at) in
+      let e = bind (queryUnder gra qry) λ x at. mapped programBytes (boundedProgram (x .0) (x .1 .0) at) in
       let judged = lent-judged e out in
       rw (translate-is gra qry out .only l c) record {
         answers = answers
@@ -175,7 +175,7 @@ module _ {gra : List ℕ} (bytes : Bytes gra) where
                   (programBytes (translated (x .0) (x .1)), (n, rw h (mapped-got programBytes (program-came (x .0) (x .1) n few))), room, refl);
               back = λ {u} (n, h) fits.
                   let (x, m, p, q) = bind-out (queryUnder gra qry) _ h in
-                  let (os, made, same) = mapped-out programBytes (programOf (x .0) (x .1 .0) m) q in
+                  let (os, made, same) = mapped-out programBytes (boundedProgram (x .0) (x .1 .0) m) q in
                   let (few, is) = program-back (x .0) (x .1 .0) m made in
                   let (f, d) = under-back (query-reads more) bytes p in
                   ((x .0, x .1 .0), (f, (d .0, few, rw (is, same) fits)));
@@ -217,7 +217,7 @@ module _ {gra : List ℕ} (bytes : Bytes gra) where
 
   -- what a query asks for is read where its files are there and its steps are few
   module _ {edg qry : List ℕ} (tables : Bytes edg) (query : Bytes qry) where
-    reading : ReadsAs gra (λ g (x : List Element × (XPath × ℕ)). TablesFile g (x .0) edg × QueryLeft qry g (x .1)) (λ g. then (tablesFile elementLimit g edg 0) (queryFile (g .k) qry 0))
+    reading : ReadsAs gra (λ g (x : List Element × (XPath × ℕ)). TablesFile g (x .0) edg × QueryLeft qry g (x .1)) (λ g. followedBy (tablesFile elementLimit g edg 0) (queryFile (g .k) qry 0))
     reading = then-reads (tables-reads tables) (query-reads query)
 
     asked-came : {g : Graph} {es : List Element} {p : XPath} → GraphFile g gra → TablesFile g es edg → QueryFile g p qry → stepCount p ≤ stepLimit → Came (asked gra edg qry) (asks g es p)
@@ -228,7 +228,7 @@ module _ {gra : List ℕ} (bytes : Bytes gra) where
     unfolding asked
     asked-back h =
         let (x, m, r, rest) = bind-out (tablesThenQuery gra edg qry) asking h in
-        let (os, made, same) = mapped-out _ (programOf (x .0) (x .1 .1 .0) m) rest in
+        let (os, made, same) = mapped-out _ (boundedProgram (x .0) (x .1 .1 .0) m) rest in
         let (few, is) = program-back (x .0) (x .1 .1 .0) m made in
         let (f, (t, q)) = under-back reading bytes r in
         (x .0, x .1 .0, x .1 .1 .0, f, t, q .0, few, rw is same)

@@ -14,7 +14,7 @@ use Rattle.meaning.proofs.Theorems.{translation-is-right, step-count-written}
 use Rattle.rel.specs.Rel.{programBytes}
 use Rattle.rel.proofs.Encoded.{program-length}
 use Rattle.writing.specs.Lent.{Lent, fileIn}
-use Rattle.shredder.proofs.Answers.{tables-length}
+use Rattle.shredder.proofs.Whole.{tables-length}
 use Rattle.rebuilder.proofs.Closes.{document-length}
 use Rattle.rooms.specs.Run.{Ran}
 use Rattle.text.specs.Listing.{listing, listingRoom}

@@ -14,15 +14,15 @@ use Rattle.meaning.specs.Announcements.{announced}
 use Rattle.meaning.specs.Documents.{view, node}
 use Rattle.meaning.specs.Operations.{last}
 use Rattle.meaning.proofs.Theorems.{announcements-are-sound, nothing-announced-nothing-selected}
-use Rattle.fields.specs.Read.{Read, got, refused, bind}
+use Rattle.fields.specs.Read.{Read, got, refused, bind, mapped}
 use Rattle.fields.specs.Write.{Bytes}
 use Rattle.rel.specs.Rel.{programFile}
-use Rattle.files.specs.Files.{mapped, under}
+use Rattle.files.specs.Files.{under}
 use Rattle.files.proofs.Handed.{under-got, mapped-got}
 use Rattle.masks.specs.Announcement.{announcement}
 use Rattle.announce.specs.declared.Checked.{Checked}
 use Rattle.announce.specs.Check.{checked, checkOf}
-use Rattle.announce.proofs.Answers.{check-shows}
+use Rattle.announce.proofs.Checking.{check-shows}
 use Rattle.rooms.specs.Layout.{joined}
 use Rattle.rooms.specs.Run.{Ran}
 use Rattle.runner.proofs.Theorems.{run-does-not-depend-on-buffers}
@@ -59,7 +59,7 @@ module _ (gra : List ℕ) (g : Graph) (graph : GraphFile g gra) where
       → tb-run gra edg rel out work r → r .answer .number ≡ 0 → tb-run gra edg rel out′ work′ q → q .answer .number ≡ 0 → Alike (length os) r q
   same {edg} {rel} tables program run h again k =
       let alike = run-does-not-depend-on-buffers gra edg rel (graph-got graph) (tables-got (graph .legal) tables) (program-got program) (had-room graph tables program run h) (had-room graph tables program again k) in
-      rw (is-run graph tables program run, is-run graph tables program again) record { answers = alike .answers; nodes = alike .nodes; rooms = alike .rooms }
+      rw (is-run graph tables program run, is-run graph tables program again) record { answers = alike .0; nodes = alike .1; rooms = alike .2 }
 
   passes : {rel : List ℕ} {os : List Operation} {c : Checked} → ProgramFile g os rel → tb-check gra rel c → c .number ≡ 0
   unfolding checkOf checked

@@ -17,10 +17,9 @@ use Rattle.meaning.specs.Limits.{small, stepLimit, roomBytes}
 use Rattle.meaning.specs.Refused.{numberOf}
 use Rattle.meaning.specs.Documents.{View}
 use Rattle.meaning.proofs.Tests.{never}
-use Rattle.fields.specs.Read.{Read, got, refused, pick}
+use Rattle.fields.specs.Read.{Read, got, refused, pick, mapped}
 use Rattle.fields.proofs.Formats.{got-same, refused-out, pick-out}
 use Rattle.writing.specs.Lent.{Lent, turnedAway, accepted, over, stored, lent}
-use Rattle.files.specs.Files.{mapped}
 use Rattle.masks.specs.declared.Announced.{Announced}
 use Rattle.masks.proofs.Announcement.{none-shown}
 use Rattle.announce.specs.Check.{checked}
@@ -28,7 +27,7 @@ use Rattle.writing.proofs.Puts.{over-front, over-length}
 use Rattle.rooms.specs.Layout.{workByte, overwritten}
 use Rattle.rooms.proofs.Layouts.{over-past, overwritten-past}
 use Rattle.rooms.proofs.Outcomes.{leaves-all}
-use Rattle.rooms.specs.Run.{Ran, leaves, untouched}
+use Rattle.rooms.specs.Run.{Ran, leaves, bothUntouched}
 use Rattle.trammelbud.specs.Calls.{answerOf}
 use Rattle.demands.specs.Demands.{Answers, Rest, Checks}
 use Rattle.demands.proofs.Readings.{Came}
@@ -49,12 +48,12 @@ in-table Room = (omega arith, omega arith)
 
 -- How a call came to its answer, by its reading and by what fits its room: something was read that fits, and it answers what that
 -- counts; or not, and it answers a number of the table and keeps what it was lent.
-pub data Judged {U : Type 0} (e : Read U) (Fits : U → Type 0) (counts : U → ℕ) (Kept : Type 0) (a : Answer) : Type 0 where
-  fitted : {u : U} → Came e u → Fits u → a ≡ accepted (counts u) → Judged e Fits counts Kept a
-  short : {u : U} → Came e u → (Fits u → ⊥) → (r : Refusal) → a ≡ turnedAway r → Kept → Judged e Fits counts Kept a
-  turned : {r : Refusal} → e ≡ refused r → a ≡ turnedAway r → Kept → Judged e Fits counts Kept a
+pub data Judged {U : Type 0} (e : Read U) (Fits : U → Type 0) (counts : U → ℕ) (Stays : Type 0) (a : Answer) : Type 0 where
+  fitted : {u : U} → Came e u → Fits u → a ≡ accepted (counts u) → Judged e Fits counts Stays a
+  short : {u : U} → Came e u → (Fits u → ⊥) → (r : Refusal) → a ≡ turnedAway r → Stays → Judged e Fits counts Stays a
+  turned : {r : Refusal} → e ≡ refused r → a ≡ turnedAway r → Stays → Judged e Fits counts Stays a
 
-pub kept : {U : Type 0} {e : Read U} {Fits : U → Type 0} {counts : U → ℕ} {Kept : Type 0} {a : Answer} → Judged e Fits counts Kept a → 0 < a .number → Kept
+pub kept : {U : Type 0} {e : Read U} {Fits : U → Type 0} {counts : U → ℕ} {Stays : Type 0} {a : Answer} → Judged e Fits counts Stays a → 0 < a .number → Stays
 kept (fitted c f is) h = absurd (omega (arith, h, ap (λ a. a .number) is))
 kept (short c f r is k) h = k
 kept (turned c is k) h = k
@@ -72,7 +71,7 @@ module _ {U X : Type 0} {e : Read U} {Fits : U → Type 0} {counts : U → ℕ} 
   turned-answers r none =
       record { accepts = λ x t. absurd (none x t); only = λ h. absurd (omega (arith, h, in-table (r .reason) .1)); number = in-table (r .reason) .0; alone = λ h. refl }
 
-  pub answers : {Kept : Type 0} {a : Answer} → Judged e Fits counts Kept a → Answers Takes count a
+  pub answers : {Stays : Type 0} {a : Answer} → Judged e Fits counts Stays a → Answers Takes count a
   answers (fitted {u} c f is) =
       rw is record {
         accepts = λ x t. let (v, d, g, same) = taken .there x t in rw (one-came c d, same);
@@ -112,13 +111,13 @@ module _ {U : Type 0} (room : U → ℕ) (bytes : U → List ℕ) (d : U → Vie
   -- what a call leaves by its reading
   abbrev pub left : Read U → Ran
   left (got u n) = leaves (room u) (bytes u) (d u) (os u) out work
-  left (refused r) = untouched r out work
+  left (refused r) = bothUntouched r out work
 
   pub run-judged : (e : Read U) → Judged e (λ u. Fitting (room u) (os u) out work) (λ u. length (bytes u)) (Both out work (left e)) (left e .answer)
   run-judged (got u n) = by-room (leb (room u) (length out)) (leb (roomBytes (small .row) * length (os u)) (length work)) refl refl
     where
       by-room : (a b : Bool) → leb (room u) (length out) ≡ a → leb (roomBytes (small .row) * length (os u)) (length work) ≡ b
-          → let r = pick {A = Ran} (a && b) (record { answer = accepted (length (bytes u)); out = over 0 (bytes u) out; work = overwritten (workByte (small .row) (d u) (os u)) (roomBytes (small .row) * length (os u)) work }) (untouched (record { reason = Room }) out work) in
+          → let r = pick {A = Ran} (a && b) (record { answer = accepted (length (bytes u)); out = over 0 (bytes u) out; work = overwritten (workByte (small .row) (d u) (os u)) (roomBytes (small .row) * length (os u)) work }) (bothUntouched (record { reason = Room }) out work) in
           Judged (got u n) (λ u. Fitting (room u) (os u) out work) (λ u. length (bytes u)) (Both out work r) (r .answer)
       by-room true true e f = fitted (n, refl) (leb-true (room u) (length out) e, leb-true (roomBytes (small .row) * length (os u)) (length work) f) refl
       by-room true false e f = short (n, refl) (λ l. never (sym f ∙ le-leb (roomBytes (small .row) * length (os u)) (length work) (l .1))) (record { reason = Room }) refl (refl, refl)
@@ -146,7 +145,7 @@ run-rest room bytes d os out work (got u n) most =
     by-room (leb (room u) (length out)) (leb (roomBytes (small .row) * length (os u)) (length work)) refl
   where
     by-room : (a b : Bool) → leb (room u) (length out) ≡ a
-        → let r = pick {A = Ran} (a && b) (record { answer = accepted (length (bytes u)); out = over 0 (bytes u) out; work = overwritten (workByte (small .row) (d u) (os u)) (roomBytes (small .row) * length (os u)) work }) (untouched (record { reason = Room }) out work) in
+        → let r = pick {A = Ran} (a && b) (record { answer = accepted (length (bytes u)); out = over 0 (bytes u) out; work = overwritten (workByte (small .row) (d u) (os u)) (roomBytes (small .row) * length (os u)) work }) (bothUntouched (record { reason = Room }) out work) in
         Rest out (r .answer) (r .out)
     by-room true true e = over-rest (bytes u) out (omega (arith, most u (n, refl), leb-true (room u) (length out) e))
     by-room true false e = record { as-long = refl; stays = λ i l. refl }
@@ -169,7 +168,7 @@ pub stored-room : (file out : List ℕ) → stored file out .answer .number ≡ 
 unfolding lent stored
 stored-room file out h = by (lent-judged (got file 0) out) h
   where
-    by : {Kept : Type 0} {a : Answer} → Judged (got file 0) (λ file. length file ≤ length out) length Kept a → a .number ≡ 0 → length file ≤ length out
+    by : {Stays : Type 0} {a : Answer} → Judged (got file 0) (λ file. length file ≤ length out) length Stays a → a .number ≡ 0 → length file ≤ length out
     by (fitted c f is) h = rw (one-came (0, refl) c) f
     by (short c f r is k) h = absurd (omega (arith, h, ap (λ a. a .number) is, in-table (r .reason) .1))
     by (turned p is k) h = refused-out (sym p)
@@ -177,7 +176,7 @@ stored-room file out h = by (lent-judged (got file 0) out) h
 pub leaves-room : (room : ℕ) (bytes : List ℕ) (d : View) (os : List Operation) (out work : List ℕ) → leaves room bytes d os out work .answer .number ≡ 0 → Fitting room os out work
 leaves-room room bytes d os out work h = by (run-judged (λ u. room) (λ u. bytes) (λ u. d) (λ u. os) out work (got tt 0)) h
   where
-    by : {Kept : Type 0} {a : Answer} → Judged {U = Unit {0}} (got tt 0) (λ u. Fitting room os out work) (λ u. length bytes) Kept a → a .number ≡ 0 → Fitting room os out work
+    by : {Stays : Type 0} {a : Answer} → Judged {U = Unit {0}} (got tt 0) (λ u. Fitting room os out work) (λ u. length bytes) Stays a → a .number ≡ 0 → Fitting room os out work
     by (fitted c f is) h = f
     by (short c f r is k) h = absurd (omega (arith, h, ap (λ a. a .number) is, in-table (r .reason) .1))
     by (turned p is k) h = refused-out (sym p)
@@ -193,6 +192,6 @@ leaves-there room bytes d os out work h =
 pub leaves-past : (room : ℕ) (bytes : List ℕ) (d : View) (os : List Operation) (out work : List ℕ) (i : ℕ) → roomBytes (small .row) * length os ≤ i → getD (leaves room bytes d os out work .work) i 0 ≡ getD work i 0
 leaves-past room bytes d os out work i l = by-room (leb room (length out) && leb (roomBytes (small .row) * length os) (length work))
   where
-    by-room : (b : Bool) → getD (pick {A = Ran} b (record { answer = accepted (length bytes); out = over 0 bytes out; work = overwritten (workByte (small .row) d os) (roomBytes (small .row) * length os) work }) (untouched (record { reason = Room }) out work) .work) i 0 ≡ getD work i 0
+    by-room : (b : Bool) → getD (pick {A = Ran} b (record { answer = accepted (length bytes); out = over 0 bytes out; work = overwritten (workByte (small .row) d os) (roomBytes (small .row) * length os) work }) (bothUntouched (record { reason = Room }) out work) .work) i 0 ≡ getD work i 0
     by-room true = overwritten-past (workByte (small .row) d os) (roomBytes (small .row) * length os) work i l
     by-room false = refl

@@ -12,7 +12,7 @@ use Rattle.meaning.specs.Graphs.{LegalGraph}
 use Rattle.meaning.specs.Queries.{XPath, queryNodes}
 use Rattle.fields.specs.Read.{Read, got}
 use Rattle.fields.specs.Write.{Bytes}
-use Rattle.files.specs.Files.{under, then}
+use Rattle.files.specs.Files.{under, followedBy}
 use Rattle.files.proofs.Handed.{under-got, under-out, then-got, then-out}
 use Rattle.graph.specs.Gra.{graphFile}
 use Rattle.graph.proofs.File.{graph-read, graph-written}
@@ -88,7 +88,7 @@ module _ {gra : List ℕ} where
 
   -- one file and then another
   pub then-reads : {X Y : Type 0} {F : Graph → X → Type 0} {G : Graph → Y → Type 0} {r : Graph → Read X} {s : Graph → Read Y} → ReadsAs gra F r → ReadsAs gra G s
-      → ReadsAs gra (λ g (z : X × Y). F g (z .0) × G g (z .1)) (λ g. then (r g) (s g))
+      → ReadsAs gra (λ g (z : X × Y). F g (z .0) × G g (z .1)) (λ g. followedBy (r g) (s g))
   then-reads {r = r} {s = s} a b = record {
     gives = λ {g} f (x, y). let (m, p) = a .gives f x in let (n, q) = b .gives f y in (n, then-got (r g) (s g) p q);
     back = λ {g} h. let (m, p, q) = then-out (r g) (s g) h in (a .back p, b .back q);

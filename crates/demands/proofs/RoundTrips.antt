@@ -10,7 +10,7 @@ use Rattle.edg.specs.Edg.{tablesBytes}
 use Rattle.writing.specs.Lent.{Lent, accepted, stored, fileIn}
 use Rattle.writing.proofs.Stored.{stored-there, stored-file}
 use Rattle.convert.specs.Convert.{shredded, rebuilt}
-use Rattle.convert.proofs.RoundTrips.{shredded-is, rebuilt-is}
+use Rattle.convert.proofs.Conversions.{shredded-is, rebuilt-is}
 use Rattle.demands.specs.Demands.{GraphFile, DocumentFile, TablesFile}
 use Rattle.demands.proofs.Readings.{graph-got, document-got, tables-got}
 use Rattle.demands.proofs.Judged.{stored-room}

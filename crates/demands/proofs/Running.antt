@@ -12,7 +12,7 @@ use Rattle.meaning.specs.Documents.{view}
 use Rattle.meaning.specs.Operations.{answer}
 use Rattle.rooms.specs.Run.{Ran, performed}
 use Rattle.runner.specs.Run.{runOf}
-use Rattle.runner.specs.Promises.{Roomy, Promised}
+use Rattle.runner.proofs.Promises.{Roomy, Promised}
 use Rattle.runner.proofs.Files.{runs-as}
 use Rattle.runner.proofs.Theorems.{run-keeps-its-promises}
 use Rattle.trammelbud.proofs.Outcomes.{tb-run}

@@ -12,13 +12,13 @@ use Rattle.meaning.specs.declared.Reason.the-variants.{Steps}
 use Rattle.meaning.specs.Limits.{stepLimit}
 use Rattle.meaning.specs.Queries.{XPath}
 use Rattle.meaning.specs.Translation.{translated, stepCount}
+use Rattle.fields.specs.Read.{mapped}
 use Rattle.query.specs.Qry.{queryFile}
 use Rattle.rel.specs.Rel.{programBytes}
-use Rattle.files.specs.Files.{mapped}
 use Rattle.files.proofs.Handed.{under-got}
 use Rattle.writing.specs.Lent.{accepted, untouched, stored, lent, fileIn}
 use Rattle.writing.proofs.Stored.{stored-there, stored-file}
-use Rattle.translator.specs.Translate.{programOf, translation}
+use Rattle.translator.specs.Translate.{boundedProgram, translation}
 use Rattle.translator.proofs.Checked.{translated-checked}
 use Rattle.demands.specs.Demands.{GraphFile, QueryFile, ProgramFile}
 use Rattle.demands.proofs.Readings.{graph-got, query-got}
@@ -30,11 +30,11 @@ module _ {gra : List ℕ} {g : Graph} (graph : GraphFile g gra) {qry : List ℕ}
 
   -- a query of few steps is stored as its program; any other is turned away
   few-stored : stepCount p ≤ stepLimit → translation gra qry b ≡ stored file b
-  unfolding translation programOf mapped lent
+  unfolding translation boundedProgram mapped lent
   few-stored few = rw (under-got gra (λ g. queryFile (g .k) qry 0) (graph-got graph) (query-got query), le-leb (stepCount p) stepLimit few)
 
   pub many-turned : stepLimit < stepCount p → translation gra qry b ≡ untouched (record { reason = Steps }) b
-  unfolding translation programOf mapped lent
+  unfolding translation boundedProgram mapped lent
   many-turned many = rw (under-got gra (λ g. queryFile (g .k) qry 0) (graph-got graph) (query-got query), lt-leb (stepCount p) stepLimit many)
 
   module _ (few : stepCount p ≤ stepLimit) (room : length file ≤ length b) where

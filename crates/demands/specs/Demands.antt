@@ -31,7 +31,7 @@ use Rattle.query.specs.Qry.{queryBytes}
 use Rattle.rel.specs.Rel.{programBytes}
 use Rattle.writing.specs.Lent.{Lent}
 use Rattle.announce.specs.declared.Checked.{Checked}
-use Rattle.masks.specs.Pairs.{relOf}
+use Rattle.masks.specs.Announcement.{relOf}
 use Rattle.rooms.specs.Layout.{joined}
 use Rattle.rooms.specs.Run.{Ran}
 use Rattle.text.specs.Listing.{listing}

@@ -14,16 +14,16 @@ use Rattle.meaning.proofs.Runs.{longer-length}
 use Rattle.meaning.proofs.Counts.{path-length, path-longer, qualifier-length, qualifier-longer}
 use Rattle.steps.specs.declared.Place.{Place}
 use Rattle.steps.specs.declared.Operator.{Operator}
-use Rattle.steps.specs.Writes.{applied, onto, Goes, Room, Behind}
+use Rattle.steps.specs.inside.Writes.{applied, onto, Goes, StepsFit, Behind}
 use Rattle.steps.proofs.Laws.{onto-goes, after-goes, goes-as, room-less}
 use Rattle.descent.specs.declared.rows.Leaf.{Leaf}
 use Rattle.descent.specs.declared.rows.Ending.{Ending}
 use Rattle.descent.specs.declared.rows.Second.{Second}
 use Rattle.descent.specs.declared.rows.Row.{Row}
-use Rattle.descent.specs.Rows.{rowOf, Stands, Leads, endingCount, Ends, betweenSteps, under, Between, Begins, led, Ended, Combines}
-use Rattle.descent.specs.Dues.{Part, path, qualifier, bytesOf, adds, weight, out, Due, Done}
+use Rattle.descent.specs.inside.Rows.{rowOf, LeafDue, Leads, endingCount, Finishes, betweenSteps, secondKinds, Between, Begins, led, Ended, Combines}
+use Rattle.descent.specs.inside.Dues.{Part, path, qualifier, bytesOf, adds, weight, kindsBehind, Due, Done}
 use Rattle.descent.proofs.KindMasks.{out-small, or-reachable-small}
-use Rattle.descent.proofs.Facts.{Fact, coded}
+use Rattle.descent.proofs.Facts.{Fact, part-coded}
 
 -- the place behind the code
 abbrev ahead : Place → Place
@@ -37,11 +37,11 @@ some-weight : (g : Graph) (p : Part (g .k)) → 1 ≤ weight p
 some-weight g (path p h) = omega (arith, path-length g 0 p [], longer-length (path-longer g 0 p []))
 some-weight g (qualifier q h) = omega (arith, qualifier-length g 0 q [], longer-length (qualifier-longer g 0 q []))
 
-part-small : (g : Graph) (C : ℕ) → C < 2 ^ kinds → (p : Part (g .k)) → out g C p < 2 ^ kinds
+part-small : (g : Graph) (C : ℕ) → C < 2 ^ kinds → (p : Part (g .k)) → kindsBehind g C p < 2 ^ kinds
 part-small g C l (path p h) = out-small g C l p
 part-small g C l (qualifier q h) = l
 
-under-small : (second : Second) (g : Graph) (C K : ℕ) → C < 2 ^ kinds → K < 2 ^ kinds → under second g C K < 2 ^ kinds
+under-small : (second : Second) (g : Graph) (C K : ℕ) → C < 2 ^ kinds → K < 2 ^ kinds → secondKinds second g C K < 2 ^ kinds
 under-small Second.After g C K c k = k
 under-small Second.Beside g C K c k = c
 under-small Second.Deeper g C K c k = or-reachable-small g K
@@ -57,7 +57,7 @@ record Found (row : Row) (g : Graph) (s : List ℕ) (at : ℕ) (p : Part (g .k))
 found : {g : Graph} {s : List ℕ} {n : ℕ} {from : Place} {row : Row} (d : Due g s n from) → row ≡ rowOf (getD s (from .at) 0) → Found row g s (from .at) (d .part) (d .rest)
 found {g} {s} {from = from} d r =
     let at = from .at in
-    let K = coded g (d .part) in
+    let K = part-coded g (d .part) in
     let there : drop at s ≡ K .code ∷ (K .more ++ d .rest) = d .stands ∙ ap (λ l. l ++ d .rest) (K .bytes) in
     let code : getD s at 0 ≡ K .code = ap (λ i. getD s i 0) (omega arith) ∙ sym (getD-drop at s 0 0) ∙ ap (λ l. getD l 0 0) there in
     record {
@@ -80,7 +80,7 @@ module _ {g : Graph} {s : List ℕ} {n : ℕ} {from : Place} (d : Due g s n from
 
 -- A part that stands where another was due before is due there too.
 abbrev due-part : {g : Graph} {s : List ℕ} {room n : ℕ} {from : Place} → Due g s room from → (to : Place) (p : Part (g .k)) (rest : List ℕ)
-    → drop (to .at) s ≡ bytesOf p ++ rest → to .kinds < 2 ^ kinds → Room (weight p) n (to .steps) → Due g s n to
+    → drop (to .at) s ≡ bytesOf p ++ rest → to .kinds < 2 ^ kinds → StepsFit (weight p) n (to .steps) → Due g s n to
 due-part d to p rest S k r = record { graph = d .graph; short = d .short; kinds = k; part = p; rest = rest; stands = S; enough = r }
 
 -- No part.
@@ -88,7 +88,7 @@ module _ {g : Graph} {s : List ℕ} {from : Place} {row : Row} (r : row ≡ rowO
   alone : {n : ℕ} (d : Due g s n from) → Found (Row.Leaf leaf) g s (from .at) (d .part) (d .rest)
   alone d = found d (sym e ∙ r)
 
-  pub leaf-stands : {n : ℕ} → Due g s n from → Stands leaf g s n (ahead from)
+  pub leaf-stands : {n : ℕ} → Due g s n from → LeafDue leaf g s n (ahead from)
   leaf-stands d =
       let F = alone d in
       record {
@@ -122,7 +122,7 @@ module _ {g : Graph} {s : List ℕ} {from : Place} {row : Row} (r : row ≡ rowO
 
   module _ {old x : List ℕ} {inner : Place} (L : Done g s old x (ahead from) inner) where
     inner-goes : (d : Due g s (length old) from) → let A = single d .fact in
-        Goes (adds g (from .kinds) (A .inner)) (weight (A .inner)) (out g (from .kinds) (A .inner)) (from .at + 1 + length (bytesOf (A .inner))) old x (from .steps) inner
+        Goes (adds g (from .kinds) (A .inner)) (weight (A .inner)) (kindsBehind g (from .kinds) (A .inner)) (from .at + 1 + length (bytesOf (A .inner))) old x (from .steps) inner
     unfolding one-due
     inner-goes d = L .done (one-due d)
 
@@ -136,7 +136,7 @@ module _ {g : Graph} {s : List ℕ} {from : Place} {row : Row} (r : row ≡ rowO
           enough = room-less (d .enough) (omega (arith, G .steps, A .counts)) (h ∙ G .same);
         }
 
-    pub one-done : {new : List ℕ} {to : Place} → Ends ending (from .kinds) x new inner to → Done g s old new from to
+    pub one-done : {new : List ℕ} {to : Place} → Finishes ending (from .kinds) x new inner to → Done g s old new from to
     one-done p = record {
       done = λ d.
           let F = single d in
@@ -160,7 +160,7 @@ module _ {g : Graph} {s : List ℕ} {from : Place} {row : Row} (r : row ≡ rowO
 
   module _ {old x : List ℕ} {left : Place} (L : Done g s old x (ahead from) left) where
     left-goes : (d : Due g s (length old) from) → let A = pair d .fact in
-        Goes (adds g (from .kinds) (A .left)) (weight (A .left)) (out g (from .kinds) (A .left)) (from .at + 1 + length (bytesOf (A .left))) old x
+        Goes (adds g (from .kinds) (A .left)) (weight (A .left)) (kindsBehind g (from .kinds) (A .left)) (from .at + 1 + length (bytesOf (A .left))) old x
         (from .steps) left
     unfolding two-due
     left-goes d = L .done (two-due d)
@@ -199,7 +199,7 @@ module _ {g : Graph} {s : List ℕ} {from : Place} {row : Row} (r : row ≡ rowO
 
       module _ {z : List ℕ} {right : Place} (R : Done g s y z begun right) where
         right-goes : (d : Due g s (length old) from) → let A = pair d .fact in
-            Goes (adds g (begun .kinds) (A .right)) (weight (A .right)) (out g (begun .kinds) (A .right)) (begun .at + length (bytesOf (A .right))) y z
+            Goes (adds g (begun .kinds) (A .right)) (weight (A .right)) (kindsBehind g (begun .kinds) (A .right)) (begun .at + length (bytesOf (A .right))) y z
             (begun .steps) right
         unfolding right-due
         right-goes d = R .done (right-due d refl)
@@ -227,11 +227,11 @@ module _ {g : Graph} {s : List ℕ} {from : Place} {row : Row} (r : row ≡ rowO
               let C = from .kinds in
               let G = left-goes d in
               let H = right-goes d in
-              let U : begun .kinds ≡ under second g C (out g C (A .left)) = B .kinds ∙ ap (under second g C) (G .kinds) in
+              let U : begun .kinds ≡ secondKinds second g C (kindsBehind g C (A .left)) = B .kinds ∙ ap (secondKinds second g C) (G .kinds) in
               goes-as
               (ap₂ (λ K L os. onto (applied operator) (adds g L (A .right)) (betweenSteps second g K (adds g C (A .left) os))) (G .kinds) U ∙ sym (A .made C))
               (omega (arith, A .counts))
-              (ap₂ (led second) (G .kinds) (H .kinds ∙ ap (λ L. out g L (A .right)) U) ∙ sym (A .leads C))
+              (ap₂ (led second) (G .kinds) (H .kinds ∙ ap (λ L. kindsBehind g L (A .right)) U) ∙ sym (A .leads C))
               (omega (arith, H .at, B .at, G .at, F .long, ap length (A .bytes), length-append (bytesOf (A .left)) (bytesOf (A .right))))
               (after-goes (after-goes G B) (onto-goes H (applied operator) p));
         }

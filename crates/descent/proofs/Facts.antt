@@ -13,13 +13,13 @@ use Rattle.meaning.specs.Translation as translation
 use Rattle.meaning.specs.Translation.{step, then, thenBoth}
 use Rattle.query.specs.Qry.{pathBytes, qualifierBytes}
 use Rattle.steps.specs.declared.Operator.{Operator}
-use Rattle.steps.specs.Writes.{applied, onto}
+use Rattle.steps.specs.inside.Writes.{applied, onto}
 use Rattle.descent.specs.declared.rows.Leaf.{Leaf}
 use Rattle.descent.specs.declared.rows.Ending.{Ending}
 use Rattle.descent.specs.declared.rows.Second.{Second}
 use Rattle.descent.specs.declared.rows.Row.{Row}
-use Rattle.descent.specs.Rows.{rowOf, leafEnd, leafKinds, leafStep, Typed, endingSteps, endingCount, betweenSteps, betweenCount, under, led}
-use Rattle.descent.specs.Dues.{Part, path, qualifier, bytesOf, adds, weight, out}
+use Rattle.descent.specs.inside.Rows.{rowOf, leafEnd, leafKinds, leafStep, Typed, endingSteps, endingCount, betweenSteps, betweenCount, secondKinds, led}
+use Rattle.descent.specs.inside.Dues.{Part, path, qualifier, bytesOf, adds, weight, kindsBehind}
 
 -- no part: its fields are all that follows
 pub record Alone (leaf : Leaf) (g : Graph) (p : Part (g .k)) (more : List ℕ) : Type 0 where
@@ -27,7 +27,7 @@ pub record Alone (leaf : Leaf) (g : Graph) (p : Part (g .k)) (more : List ℕ) :
   pub type : (rest : List ℕ) → Typed leaf (g .k) (more ++ rest)
   pub counts : weight p ≡ 1
   pub made : (C : ℕ) (rest : List ℕ) → adds g C p ≡ step (leafStep leaf g (more ++ rest) C)
-  pub leads : (C : ℕ) (rest : List ℕ) → out g C p ≡ leafKinds leaf g (more ++ rest) C
+  pub leads : (C : ℕ) (rest : List ℕ) → kindsBehind g C p ≡ leafKinds leaf g (more ++ rest) C
 
 -- one
 pub record One (ending : Ending) (g : Graph) (p : Part (g .k)) (more : List ℕ) : Type 0 where
@@ -35,7 +35,7 @@ pub record One (ending : Ending) (g : Graph) (p : Part (g .k)) (more : List ℕ)
   pub bytes : more ≡ bytesOf inner
   pub counts : weight p ≡ weight inner + endingCount ending
   pub made : (C : ℕ) → adds g C p ≡ λ os. endingSteps ending (adds g C inner os)
-  pub leads : (C : ℕ) → out g C p ≡ C
+  pub leads : (C : ℕ) → kindsBehind g C p ≡ C
 
 -- two
 pub record Two (second : Second) (operator : Operator) (g : Graph) (p : Part (g .k)) (more : List ℕ) : Type 0 where
@@ -43,8 +43,8 @@ pub record Two (second : Second) (operator : Operator) (g : Graph) (p : Part (g 
   pub right : Part (g .k)
   pub bytes : more ≡ bytesOf left ++ bytesOf right
   pub counts : weight p ≡ weight left + betweenCount second + weight right + 1
-  pub made : (C : ℕ) → let K = out g C left in adds g C p ≡ λ os. onto (applied operator) (adds g (under second g C K) right) (betweenSteps second g K (adds g C left os))
-  pub leads : (C : ℕ) → let K = out g C left in out g C p ≡ led second K (out g (under second g C K) right)
+  pub made : (C : ℕ) → let K = kindsBehind g C left in adds g C p ≡ λ os. onto (applied operator) (adds g (secondKinds second g C K) right) (betweenSteps second g K (adds g C left os))
+  pub leads : (C : ℕ) → let K = kindsBehind g C left in kindsBehind g C p ≡ led second K (kindsBehind g (secondKinds second g C K) right)
 
 abbrev pub Fact : Row → (g : Graph) → Part (g .k) → List ℕ → Type 0
 Fact (Row.Leaf leaf) g p more = Alone leaf g p more
@@ -61,22 +61,22 @@ pub record Coded (g : Graph) (p : Part (g .k)) : Type 0 where
 row : {g : Graph} {p : Part (g .k)} (code : ℕ) {more : List ℕ} → bytesOf p ≡ code ∷ more → Fact (rowOf code) g p more → Coded g p
 row code {more} e f = record { code = code; more = more; bytes = e; fact = f }
 
-pub coded : (g : Graph) (p : Part (g .k)) → Coded g p
+pub part-coded : (g : Graph) (p : Part (g .k)) → Coded g p
 unfolding rowOf pathBytes qualifierBytes pathCount qualifierCount LegalPath LegalQualifier translation.path translation.qualifier translation.out then thenBoth onto
-coded g (path self h) = row 0x01 refl (record { ends = omega arith; type = λ _. tt; counts = refl; made = λ _ _. refl; leads = λ _ _. refl })
-coded g (path (child t) h) = row 0x02 refl (record { ends = omega arith; type = λ _. h; counts = refl; made = λ _ _. refl; leads = λ _ _. refl })
-coded g (path anyChild h) = row 0x03 refl (record { ends = omega arith; type = λ _. tt; counts = refl; made = λ _ _. refl; leads = λ _ _. refl })
-coded g (path (slash p q) h) = row 0x04 refl (record { left = path p (h .0); right = path q (h .1); bytes = refl; counts = omega arith; made = λ _. refl; leads = λ _. refl })
-coded g (path (slashes p q) h) = row 0x05 refl (record { left = path p (h .0); right = path q (h .1); bytes = refl; counts = omega arith; made = λ _. refl; leads = λ _. refl })
-coded g (path (union p q) h) = row 0x06 refl (record { left = path p (h .0); right = path q (h .1); bytes = refl; counts = omega arith; made = λ _. refl; leads = λ _. refl })
-coded g (path (filter p q) h) = row 0x07 refl (record { left = path p (h .0); right = qualifier q (h .1); bytes = refl; counts = omega arith; made = λ _. refl; leads = λ _. refl })
-coded g (qualifier (reached p) h) = row 0x11 refl (record { inner = path p h; bytes = refl; counts = omega arith; made = λ _. refl; leads = λ _. refl })
-coded g (qualifier (textIs v) h) =
+part-coded g (path self h) = row 0x01 refl (record { ends = omega arith; type = λ _. tt; counts = refl; made = λ _ _. refl; leads = λ _ _. refl })
+part-coded g (path (child t) h) = row 0x02 refl (record { ends = omega arith; type = λ _. h; counts = refl; made = λ _ _. refl; leads = λ _ _. refl })
+part-coded g (path anyChild h) = row 0x03 refl (record { ends = omega arith; type = λ _. tt; counts = refl; made = λ _ _. refl; leads = λ _ _. refl })
+part-coded g (path (slash p q) h) = row 0x04 refl (record { left = path p (h .0); right = path q (h .1); bytes = refl; counts = omega arith; made = λ _. refl; leads = λ _. refl })
+part-coded g (path (slashes p q) h) = row 0x05 refl (record { left = path p (h .0); right = path q (h .1); bytes = refl; counts = omega arith; made = λ _. refl; leads = λ _. refl })
+part-coded g (path (union p q) h) = row 0x06 refl (record { left = path p (h .0); right = path q (h .1); bytes = refl; counts = omega arith; made = λ _. refl; leads = λ _. refl })
+part-coded g (path (filter p q) h) = row 0x07 refl (record { left = path p (h .0); right = qualifier q (h .1); bytes = refl; counts = omega arith; made = λ _. refl; leads = λ _. refl })
+part-coded g (qualifier (reached p) h) = row 0x11 refl (record { inner = path p h; bytes = refl; counts = omega arith; made = λ _. refl; leads = λ _. refl })
+part-coded g (qualifier (textIs v) h) =
     let word : v ≡ v / 256 * 256 + v % 256 = omega arith in
     row 0x12 refl (record { ends = omega arith; type = λ _. tt; counts = refl; made = λ _ _. ap (λ n. step (Text n)) word; leads = λ _ _. refl })
-coded g (qualifier (isNot q) h) = row 0x13 refl (record { inner = qualifier q h; bytes = refl; counts = omega arith; made = λ _. refl; leads = λ _. refl })
-coded g (qualifier (both q r) h) = row 0x14 refl (record { left = qualifier q (h .0); right = qualifier r (h .1); bytes = refl; counts = omega arith; made = λ _. refl; leads = λ _. refl })
-coded g (qualifier (either q r) h) = row 0x15 refl (record { left = qualifier q (h .0); right = qualifier r (h .1); bytes = refl; counts = omega arith; made = λ _. refl; leads = λ _. refl })
+part-coded g (qualifier (isNot q) h) = row 0x13 refl (record { inner = qualifier q h; bytes = refl; counts = omega arith; made = λ _. refl; leads = λ _. refl })
+part-coded g (qualifier (both q r) h) = row 0x14 refl (record { left = qualifier q (h .0); right = qualifier r (h .1); bytes = refl; counts = omega arith; made = λ _. refl; leads = λ _. refl })
+part-coded g (qualifier (either q r) h) = row 0x15 refl (record { left = qualifier q (h .0); right = qualifier r (h .1); bytes = refl; counts = omega arith; made = λ _. refl; leads = λ _. refl })
 
 -- the function of the table
 pub row-as : (c w : ℕ) {r : Row} → c ≡ w → r ≡ rowOf w → r ≡ rowOf c
@@ -88,4 +88,4 @@ unfolding rowOf
 row-other c n1 n2 n3 n4 n5 n6 n7 q1 q2 q3 q4 =
     simp (ne-eqb c _ n1, ne-eqb c _ n2, ne-eqb c _ n3, ne-eqb c _ n4, ne-eqb c _ n5, ne-eqb c _ n6, ne-eqb c _ n7, ne-eqb c _ q1, ne-eqb c _ q2, ne-eqb c _ q3, ne-eqb c _ q4)
 
-pub ruleset rows = (row-as, row-other, needs)
+pub ruleset row-laws = (row-as, row-other, needs)

@@ -12,15 +12,15 @@ use Rattle.meaning.specs.Limits.{types, kinds, words}
 use Rattle.meaning.specs.Graphs.{childKind}
 use Rattle.meaning.specs.Translation.{image, only, step}
 use Rattle.steps.specs.declared.Place.{Place}
-use Rattle.steps.specs.Writes.{Goes}
+use Rattle.steps.specs.inside.Writes.{Goes}
 use Rattle.descent.specs.declared.rows.Leaf.{Leaf}
-use Rattle.descent.specs.Rows.{Stands, Leads}
+use Rattle.descent.specs.inside.Rows.{LeafDue, Leads}
 use Rattle.descent.proofs.KindMasks.{image-small, children-words, only-words, only-and}
 
 first-at : (s : List ℕ) (at : ℕ) → getD (drop at s) 0 0 ≡ getD s at 0
 first-at s at = getD-drop at s 0 0 ∙ ap (λ i. getD s i 0) (omega arith)
 
-module _ {leaf : Leaf} {g : Graph} {s : List ℕ} {room : ℕ} {from : Place} (S : Stands leaf g s room from) where
+module _ {leaf : Leaf} {g : Graph} {s : List ℕ} {room : ℕ} {from : Place} (S : LeafDue leaf g s room from) where
   pub child-inside : leaf ≡ Leaf.Child → from .at < length s
   child-inside e = let i = rw e at (S .inside) in omega arith
 
@@ -59,4 +59,4 @@ module _ {leaf : Leaf} (g : Graph) (s : List ℕ) {old new : List ℕ} (from : P
       → Goes (step (Text v)) 1 (from .kinds) (from .at + 2) old new (from .steps) to → Leads leaf g s old new from to
   text-leads e i p = rw (e, first-at s (from .at), getD-drop (from .at) s 1 0) (rw i at p)
 
-pub ruleset leaves = (child-inside, child-type, text-here, text-inside, children-mask, child-mask, children-kinds, itself-leads, child-leads, children-leads, text-leads, only-and, needs)
+pub ruleset leaf-laws = (child-inside, child-type, text-here, text-inside, children-mask, child-mask, children-kinds, itself-leads, child-leads, children-leads, text-leads, only-and, needs)

@@ -11,11 +11,11 @@ use Rattle.meaning.specs.Graphs.{reachable}
 use Rattle.meaning.specs.Translation.{image, orReachable, step, descend}
 use Rattle.steps.specs.declared.Place.{Place}
 use Rattle.steps.specs.declared.Operator.{Operator}
-use Rattle.steps.specs.Writes.{applied, onto, Goes, Behind, Below}
+use Rattle.steps.specs.inside.Writes.{applied, onto, Goes, Behind, Descending}
 use Rattle.steps.proofs.Laws.{stays, onto-goes, goes-as}
 use Rattle.descent.specs.declared.rows.Ending.{Ending}
 use Rattle.descent.specs.declared.rows.Second.{Second}
-use Rattle.descent.specs.Rows.{endingCount, led, Between, Ends, Begins}
+use Rattle.descent.specs.inside.Rows.{endingCount, led, Between, Finishes, Begins}
 use Rattle.descent.proofs.KindMasks.{image-small, reachable-words, together-or}
 
 -- Behind one part.
@@ -30,10 +30,10 @@ module _ {ending : Ending} {room : ℕ} {inner : Place} (K : ℕ) (B : Behind (e
   not-behind e = let b = rw e at B in record { some = b .some; later = b .later; enough = b .enough }
 
 module _ {ending : Ending} {K : ℕ} {old new : List ℕ} (inner : Place) {to : Place} where
-  pub has-ends : ending ≡ Ending.Has → Goes (step (Has (inner .steps - 1))) 1 K (inner .at) old new (inner .steps) to → Ends ending K old new inner to
+  pub has-ends : ending ≡ Ending.Has → Goes (step (Has (inner .steps - 1))) 1 K (inner .at) old new (inner .steps) to → Finishes ending K old new inner to
   has-ends e p = rw e (onto-goes (stays inner K old) (applied Operator.Has) p)
 
-  pub not-ends : ending ≡ Ending.Not → Goes (onto (applied Operator.Diff) (step Itself)) 2 K (inner .at) old new (inner .steps) to → Ends ending K old new inner to
+  pub not-ends : ending ≡ Ending.Not → Goes (onto (applied Operator.Diff) (step Itself)) 2 K (inner .at) old new (inner .steps) to → Finishes ending K old new inner to
   not-ends e p = rw e p
 
 -- Between two.
@@ -45,7 +45,7 @@ module _ {second : Second} (g : Graph) (C : ℕ) {old : List ℕ} (left : Place)
   beside-begins e = rw e (stays left C old)
 
 module _ {second : Second} {g : Graph} {room : ℕ} {left : Place} (B : Between second g room left) {D : ℕ} (e : second ≡ Second.Deeper) (i : D ≡ image (reachable g) (left .kinds)) where
-  pub deeper-below : Below D room left
+  pub deeper-below : Descending D room left
   deeper-below = record { mask = rw i (reachable-words g (B .graph) (left .kinds)); behind = rw e at (B .behind) }
 
   pub deeper-begins : (C : ℕ) {old new : List ℕ} {to : Place} → Goes (onto Join (descend D)) 5 (bitOr (left .kinds) D) (left .at) old new (left .steps) to → Begins second g C old new left to

@@ -5,7 +5,7 @@ ghost use lib.ListN.{length};
 ghost use Rattle.meaning.specs.Limits.{types, kinds};
 ghost use Rattle.meaning.specs.Graphs.{childKind};
 ghost use Rattle.meaning.specs.Translation.{image, only};
-ghost use Rattle.descent.specs.Rows.{graphOf, Stands, Leads};
+ghost use Rattle.descent.specs.inside.Rows.{graphOf, LeafDue, Leads};
 use crate::rows::Leaf;
 use meaning::Graph;
 use meaning::Operation;
@@ -38,7 +38,7 @@ pub(crate) fn write(
     from: Place,
     out: &mut [u8],
 ) -> Place
-    requires { ⌜ Stands leaf (graphOf k root (now masks)) (now qry) (length (now out)) from ⌝ }
+    requires { ⌜ LeafDue leaf (graphOf k root (now masks)) (now qry) (length (now out)) from ⌝ }
     ensures { λ r. ⌜ Leads leaf (graphOf k root (now (masks .entry))) (now (qry .entry)) (now (out .entry)) (now (out .exit)) from r ⌝ }
 {
     let at = from.at as usize;

@@ -5,8 +5,8 @@ mod parts;
 mod rows;
 
 ghost use lib.ListN.{length};
-ghost use Rattle.descent.specs.Rows.{graphOf};
-ghost use Rattle.descent.specs.Dues.{start, Due, Done};
+ghost use Rattle.descent.specs.inside.Rows.{graphOf};
+ghost use Rattle.descent.specs.inside.Dues.{start, Due, Done};
 use crate::rows::Row;
 use meaning::Graph;
 use steps::Place;

@@ -5,8 +5,8 @@ ghost use lib.ListN.{length};
 ghost use Rattle.meaning.specs.Limits.{kinds};
 ghost use Rattle.meaning.specs.Graphs.{reachable};
 ghost use Rattle.meaning.specs.Translation.{image};
-ghost use Rattle.steps.specs.Writes.{Behind};
-ghost use Rattle.descent.specs.Rows.{graphOf, endingCount, led, Between, Ended, Ends, Begins, Combines};
+ghost use Rattle.steps.specs.inside.Writes.{Behind};
+ghost use Rattle.descent.specs.inside.Rows.{graphOf, endingCount, led, Between, Ended, Finishes, Begins, Combines};
 use crate::rows::Ending;
 use crate::rows::Second;
 use meaning::Graph;
@@ -16,7 +16,7 @@ use steps::Place;
 // Behind the only part, under the kinds of the whole.
 pub(crate) fn end(ending: Ending, kinds: u32, inner: Place, out: &mut [u8]) -> Place
     requires { ⌜ Behind (endingCount ending) (length (now out)) inner inner ⌝ }
-    ensures { λ r. ⌜ Ends ending kinds (now (out .entry)) (now (out .exit)) inner r ⌝ }
+    ensures { λ r. ⌜ Finishes ending kinds (now (out .entry)) (now (out .exit)) inner r ⌝ }
 {
     let behind = Place {
         kinds,

@@ -1,6 +1,6 @@
 // The table of codes: what follows each, and which steps are made of it.
 ghost use mathlib.Core.Path.{_≡_};
-ghost use Rattle.descent.specs.Rows.{rowOf};
+ghost use Rattle.descent.specs.inside.Rows.{rowOf};
 use steps::Operator;
 
 // A code with no part: SELF; TABLE with the type that follows, or with all children; TEXT with the number that follows.

@@ -17,17 +17,17 @@ use Rattle.meaning.specs.Limits.{elementLimit}
 use Rattle.fields.specs.declared.Cursor.{Cursor}
 use Rattle.fields.specs.declared.Field.{Field}
 use Rattle.fields.specs.declared.Field.the-variants.{Got, Refused}
-use Rattle.fields.specs.Read.{Read, got, refused, bind, pick, give, readOf, passed, beside, header, end}
-use Rattle.fields.specs.Outcomes.{outcomeOf}
+use Rattle.fields.specs.Read.{Read, got, refused, bind, pick, give, header, end}
+use Rattle.fields.specs.inside.Outcomes.{outcomeOf, readOf, passed, beside}
 use Rattle.fields.proofs.Laws.{taken, handed, taken-passed, handed-passed, beside-got}
 use Rattle.elements.specs.declared.ElementsRead.{ElementsRead}
-use Rattle.elements.specs.Kept.{keptIn, Keeps}
-use Rattle.elements.proofs.Kept.{keeps-none, keeps-all}
-use Rattle.tre.specs.Tre.{nothingOpen, token, tokens, document, documentFile}
+use Rattle.elements.specs.inside.Packing.{keptIn, Keeps}
+use Rattle.elements.proofs.Packing.{keeps-none, keeps-all}
+use Rattle.tre.specs.Tre.{nothingOpen, token, tokens, documentRead, documentFile}
 use Rattle.tre.proofs.Turns.{token-moves, tokens-turn}
 use Rattle.document.specs.declared.Standing.{Standing}
 use Rattle.document.specs.declared.Turn.{Turn}
-use Rattle.document.specs.States.{openIn, HasRoom, Answers}
+use Rattle.document.specs.inside.States.{openIn, HasRoom, OpenRead}
 
 -- What is to be read is what the tokens from here on come to.
 pub record Reaches (w : Read (List Element)) (g : Graph) (s kept : List ℕ) (st : Standing) (at : ℕ) : Type 0 where
@@ -42,11 +42,11 @@ unfolding openIn keptIn
 tokens-start g s kept at l = record { room = record { long = l; most = omega arith }; fuel = length s; enough = omega arith; same = refl }
 
 module _ {w : Read (List Element)} (g : Graph) (s kept : List ℕ) {st : Standing} {at : ℕ} (inv : Reaches w g s kept st at)
-    {later : List ℕ} {turn : Turn} (p : Answers (λ o. o) later turn (token elementLimit g (openIn kept st) s at)) where
+    {later : List ℕ} {turn : Turn} (p : OpenRead (λ o. o) later turn (token elementLimit g (openIn kept st) s at)) where
   turned : w ≡ bind (beside (turn .next) (openIn later (turn .state))) (λ o. pick (eqb (o .inner) 0) (give (o .elements)) (tokens (inv .fuel - 1) elementLimit g o) s)
   turned = inv .same ∙ tokens-turn elementLimit g (openIn kept st) s at (inv .fuel) (inv .enough) ∙ rw (p .right)
 
-  pub turn-refused : {r : Refusal} → turn .next ≡ Refused r → Answers (λ o. o .elements) later turn w
+  pub turn-refused : {r : Refusal} → turn .next ≡ Refused r → OpenRead (λ o. o .elements) later turn w
   turn-refused q = record { room = p .room; right = rw (turned, q) }
 
   module _ {v : ℕ} {c : Cursor} (q : turn .next ≡ Got v c) where
@@ -54,7 +54,7 @@ module _ {w : Read (List Element)} (g : Graph) (s kept : List ℕ) {st : Standin
     turn-less bytes = token-moves elementLimit g (openIn kept st) s at (λ i. bytes i .fits) (beside-got (openIn later (turn .state)) (p .right) q)
 
     -- element 1 is closed
-    pub turn-last : turn .state .inner ≡ 0 → Answers (λ o. o .elements) later turn w
+    pub turn-last : turn .state .inner ≡ 0 → OpenRead (λ o. o .elements) later turn w
     unfolding openIn
     turn-last z = record { room = p .room; right = rw (turned, q, eq-eqb (turn .state .inner) 0 z) }
 
@@ -73,12 +73,12 @@ pub ruleset token-laws = (tokens-start, turn-refused, turn-less, turn-last, turn
 module _ (g : Graph) (s kept : List ℕ) {b : Cursor} (z : b .at ≡ 0) {x : Field} (p : readOf x ≡ header 0x54 0x52 0x45 1 s (b .at)) where
   pub read-headless : {r : Refusal} {a : ElementsRead} → x ≡ Refused r → a ≡ record { outcome = outcomeOf (readOf x); count = 0 }
       → Keeps (documentFile elementLimit g s 0) kept a
-  unfolding documentFile document
+  unfolding documentFile documentRead
   read-headless q e = keeps-none kept e q (simp (handed (rw z at p) q))
 
-  module _ {v : ℕ} {c : Cursor} (q : x ≡ Got v c) {turn : Turn} (t : Answers (λ o. o .elements) kept turn (tokens (length s) elementLimit g nothingOpen s (c .at))) where
+  module _ {v : ℕ} {c : Cursor} (q : x ≡ Got v c) {turn : Turn} (t : OpenRead (λ o. o .elements) kept turn (tokens (length s) elementLimit g nothingOpen s (c .at))) where
     whole : documentFile elementLimit g s 0 ≡ bind (beside (turn .next) (openIn kept (turn .state) .elements)) (λ es at. bind (end s at) (λ _ n. got es n))
-    unfolding documentFile document
+    unfolding documentFile documentRead
     whole = simp (taken (rw z at p) q, ← t .right)
 
     pub read-refused : {r : Refusal} {a : ElementsRead} → turn .next ≡ Refused r → a ≡ record { outcome = outcomeOf (readOf (turn .next)); count = 0 }

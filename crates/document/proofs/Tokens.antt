@@ -23,15 +23,16 @@ use Rattle.meaning.specs.Documents.{node}
 use Rattle.fields.specs.declared.Cursor.{Cursor}
 use Rattle.fields.specs.declared.Field.{Field}
 use Rattle.fields.specs.declared.Field.the-variants.{Got, Refused}
-use Rattle.fields.specs.Read.{Read, Reader, got, refused, bind, answered, refusalOf, judge, judged, readOf, byte, byteBelow, word}
+use Rattle.fields.specs.inside.Outcomes.{readOf, answered}
+use Rattle.fields.specs.Read.{Read, Reader, got, refused, bind, refusalOf, judge, judged, byte, byteBelow, word}
 use Rattle.fields.proofs.Laws.{taken, handed, judged-ended, judged-told}
 use Rattle.fields.proofs.Formats.{bind-out, refused-out}
-use Rattle.elements.specs.Kept.{elementIn, keptIn}
-use Rattle.elements.proofs.Kept.{map-set, held-long}
+use Rattle.elements.specs.inside.Packing.{elementIn, keptIn}
+use Rattle.elements.proofs.Packing.{map-set, held-long}
 use Rattle.tre.specs.Tre.{Open, pushed, popped, code, newType, opened, token}
 use Rattle.document.specs.declared.Standing.{Standing}
 use Rattle.document.specs.declared.Turn.{Turn}
-use Rattle.document.specs.States.{openIn, HasRoom, Answers}
+use Rattle.document.specs.inside.States.{openIn, HasRoom, OpenRead}
 
 -- what is answered for a field, by how its test came out
 told : (b : Bool) (x : Field) (r : Refusal) {y : Field} {e : Read ℕ} → y ≡ answered b x r → (b ≡ true → readOf x ≡ e) → (b ≡ false → refused r ≡ e) → readOf y ≡ e
@@ -112,26 +113,26 @@ module _ (kept : List ℕ) (st : Standing) (room : HasRoom kept st) where
         rw (i, add-one, map-set elementIn kept (st .count) p, take-suc-set (map elementIn kept) (st .count) (elementIn p) (omega (arith, room .long, length-map kept elementIn)), e)
         (ap (λ n. record { elements = take (st .count) (map elementIn kept) ++ (record { parent = st .inner; kind = t; text = x } ∷ []); inner = suc n }) (sym count-is))
 
-  stops : {x : Field} {r : Refusal} {e : Read Open} → x ≡ Refused r → e ≡ refused r → Answers (λ p. p) kept (turn st x) e
+  stops : {x : Field} {r : Refusal} {e : Read Open} → x ≡ Refused r → e ≡ refused r → OpenRead (λ p. p) kept (turn st x) e
   stops q p = rw (q, p) (record { room = room; right = refl })
 
   module _ (g : Graph) (s : List ℕ) (at : ℕ) {x : Field} (p : readOf x ≡ newType g o s at) where
-    pub opened-untyped : {r : Refusal} → x ≡ Refused r → Answers (λ p. p) kept (turn st x) (opened g o s at)
+    pub opened-untyped : {r : Refusal} → x ≡ Refused r → OpenRead (λ p. p) kept (turn st x) (opened g o s at)
     unfolding opened
     opened-untyped q = stops q (simp (handed p q))
 
     module _ {t : ℕ} {c : Cursor} (q : x ≡ Got t c) {y : Field} (i : readOf y ≡ word s (c .at)) where
-      pub opened-textless : {r : Refusal} → y ≡ Refused r → Answers (λ p. p) kept (turn st y) (opened g o s at)
+      pub opened-textless : {r : Refusal} → y ≡ Refused r → OpenRead (λ p. p) kept (turn st y) (opened g o s at)
       unfolding opened
       opened-textless u = stops u (simp (taken p q, handed i u))
 
       pub opened-got : {k v : ℕ} {d : Cursor} {later : List ℕ} {st′ : Standing} → k ≡ t → y ≡ Got v d → HasRoom later st′ × (openIn later st′ ≡ pushed o k v)
-          → Answers (λ p. p) later (turn st′ (Got v d)) (opened g o s at)
+          → OpenRead (λ p. p) later (turn st′ (Got v d)) (opened g o s at)
       unfolding opened
       opened-got j u z = record { room = z .0; right = simp (taken p q, taken i u, z .1, j) }
 
   module _ (g : Graph) (s : List ℕ) (at : ℕ) {x : Field} (p : readOf x ≡ code elementLimit (st .count) s at) where
-    pub token-cut : {r : Refusal} → x ≡ Refused r → Answers (λ p. p) kept (turn st x) (token elementLimit g o s at)
+    pub token-cut : {r : Refusal} → x ≡ Refused r → OpenRead (λ p. p) kept (turn st x) (token elementLimit g o s at)
     unfolding token
     token-cut q = stops q (simp (count-is, handed p q))
 
@@ -142,11 +143,11 @@ module _ (kept : List ℕ) (st : Standing) (room : HasRoom kept st) where
           let (before, _) = judged-out (judged (judged byte _ Code) _ Bound) _ Edge s at (taken p q) in
           ltb-true _ _ (rw one at (judged-out (judged byte _ Code) _ Bound s at before .1))
 
-      pub token-opens : {a : Turn} {later : List ℕ} → v ≡ 0x01 → Answers (λ p. p) later a (opened g o s (c .at)) → Answers (λ p. p) later a (token elementLimit g o s at)
+      pub token-opens : {a : Turn} {later : List ℕ} → v ≡ 0x01 → OpenRead (λ p. p) later a (opened g o s (c .at)) → OpenRead (λ p. p) later a (token elementLimit g o s at)
       unfolding token
       token-opens one e = record { room = e .room; right = e .right ∙ simp (count-is, taken p q, eq-eqb v 0x01 one) }
 
-      pub token-closes : {st′ : Standing} → (v ≡ 0x01 → ⊥) → HasRoom kept st′ × (openIn kept st′ ≡ popped o) → Answers (λ p. p) kept (turn st′ (Got v c)) (token elementLimit g o s at)
+      pub token-closes : {st′ : Standing} → (v ≡ 0x01 → ⊥) → HasRoom kept st′ × (openIn kept st′ ≡ popped o) → OpenRead (λ p. p) kept (turn st′ (Got v c)) (token elementLimit g o s at)
       unfolding token
       token-closes other z = record { room = z .0; right = simp (count-is, taken p q, ne-eqb v 0x01 other, z .1) }
 

@@ -1,2 +1,1 @@
--- What the parts of the reader hand to each other.
-pub mod States
+pub mod inside

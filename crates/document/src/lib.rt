@@ -4,10 +4,10 @@ ghost use mathlib.Core.Path.{_≡_};
 ghost use Prim.Native.Nat.{_<_};
 ghost use lib.ListN.{length};
 ghost use Rattle.meaning.specs.Limits.{elementLimit};
-ghost use Rattle.fields.specs.Read.{readOf};
-ghost use Rattle.elements.specs.Kept.{Keeps};
+ghost use Rattle.fields.specs.inside.Outcomes.{readOf};
+ghost use Rattle.elements.specs.inside.Packing.{Keeps};
 ghost use Rattle.tre.specs.Tre.{nothingOpen, pushed, popped, code, newType, opened, token, tokens, documentFile};
-ghost use Rattle.document.specs.States.{openIn, HasRoom, Answers};
+ghost use Rattle.document.specs.inside.States.{openIn, HasRoom, OpenRead};
 use elements::ElementsRead;
 use elements::node_at;
 use elements::packed;
@@ -84,10 +84,10 @@ impl Standing {
         }
     }
 
-    // After 01: the type, then the text.
+    // After 0x01: the type, then the text.
     fn opened(self, kept: &mut [u32], s: &[u8], g: Graph, c: Cursor) -> Turn
         requires { ⌜ HasRoom (now kept) self × (self .count < elementLimit) ⌝ }
-        ensures { λ r. ⌜ Answers (λ o. o) (now (kept .exit)) r (opened g (openIn (now (kept .entry)) self) (now (s .entry)) (c .at)) ⌝ }
+        ensures { λ r. ⌜ OpenRead (λ o. o) (now (kept .exit)) r (opened g (openIn (now (kept .entry)) self) (now (s .entry)) (c .at)) ⌝ }
     {
         let next = self.new_type(kept, s, g, c);
         let Field::Got(t, after) = next else {
@@ -101,7 +101,7 @@ impl Standing {
         Turn { state, next }
     }
 
-    // After 02: the parent is the innermost again.
+    // After 0x02: the parent is the innermost again.
     fn popped(self, kept: &[u32]) -> Standing
         requires { ⌜ HasRoom (now kept) self ⌝ }
         ensures { λ r. ⌜ HasRoom (now (kept .entry)) r × (openIn (now (kept .entry)) r ≡ popped (openIn (now (kept .entry)) self)) ⌝ }
@@ -114,7 +114,7 @@ impl Standing {
 
     fn token(self, kept: &mut [u32], s: &[u8], g: Graph, c: Cursor) -> Turn
         requires { ⌜ HasRoom (now kept) self ⌝ }
-        ensures { λ r. ⌜ Answers (λ o. o) (now (kept .exit)) r (token elementLimit g (openIn (now (kept .entry)) self) (now (s .entry)) (c .at)) ⌝ }
+        ensures { λ r. ⌜ OpenRead (λ o. o) (now (kept .exit)) r (token elementLimit g (openIn (now (kept .entry)) self) (now (s .entry)) (c .at)) ⌝ }
     {
         let next = code(s, c, self.count);
         let Field::Got(code, after) = next else {
@@ -131,7 +131,7 @@ impl Standing {
 // The tokens, up to the close of element 1.
 fn read_tokens(kept: &mut [u32], s: &[u8], g: Graph, first: Cursor) -> Turn
     requires { ⌜ length (now kept) ≡ elementLimit ⌝ }
-    ensures { λ r. ⌜ Answers (λ o. o .elements) (now (kept .exit)) r (tokens (length (now (s .entry))) elementLimit g nothingOpen (now (s .entry)) (first .at)) ⌝ }
+    ensures { λ r. ⌜ OpenRead (λ o. o .elements) (now (kept .exit)) r (tokens (length (now (s .entry))) elementLimit g nothingOpen (now (s .entry)) (first .at)) ⌝ }
 {
     let mut standing = Standing { count: 0, inner: 0 };
     let mut cursor = first;

@@ -24,7 +24,8 @@ use Rattle.fields.specs.Read.{got, pick}
 use Rattle.fields.specs.Write.{Bytes, byteOf, headerOf}
 use Rattle.fields.proofs.Formats.{Reads, Accepts, Takes, reads-bind, reads-last, takes-bind, takes-weaken, accepts-bind, accepts-give, accepts-ended, reads-give, reads-judge, reads-judged, reads-byte, reads-header, reads-ended, takes-judge, takes-judged, takes-byte, takes-first}
 use Rattle.edg.specs.declared.Row.{Row}
-use Rattle.edg.specs.Edg.{tablesRead, head, rowsFile, count, times, ones, elementsOf, judgeHere, elementJudged, elementsJudged, whole, tablesFile, rowsOf, tableBytes, tablesOf, tablesBytes, GoodRow}
+use Rattle.edg.specs.inside.GoodRow.{GoodRow}
+use Rattle.edg.specs.Edg.{tablesRead, head, rowsFile, count, times, ones, elementsOf, judgeHere, elementJudged, elementsJudged, whole, tablesFile, rowsOf, tableBytes, tablesOf, tablesBytes}
 use Rattle.edg.proofs.Lists.{either, All, all-none, all-append, all-split, all-map, all-with, count-append, count-some}
 use Rattle.edg.proofs.Numbers.{Once, ones-out, ones-in, times-none, once-count, once-all, elements-long, elements-at, elements-keep}
 use Rattle.edg.proofs.Tabling.{Stands, rows-same, rows-stand, rows-ascend, rows-times}
@@ -122,10 +123,10 @@ module _ (g : Graph) (es : List Element) where
   Rules i = (parentRule (view es) i ≡ true) × (edgeRule g (view es) i ≡ true)
 
   -- n elements from element i on keep to the rules
-  abbrev Kept : ℕ → ℕ → Type 0
-  Kept i n = (j : ℕ) → i ≤ j → j < i + n → Rules j
+  abbrev RulesKept : ℕ → ℕ → Type 0
+  RulesKept i n = (j : ℕ) → i ≤ j → j < i + n → Rules j
 
-  takes-elements : (i n : ℕ) → Takes (elementsJudged g es i n) (λ _. []) (λ _. Kept i n)
+  takes-elements : (i n : ℕ) → Takes (elementsJudged g es i n) (λ _. []) (λ _. RulesKept i n)
   unfolding elementsJudged elementJudged
   takes-elements i zero = accepts-give (refl, λ j p l. absurd (omega arith))
   takes-elements i (suc n) =
@@ -133,7 +134,7 @@ module _ (g : Graph) (es : List Element) where
       takes-weaken (takes-elements (suc i) n) λ _ later.
       (refl, λ j p l. ⊎-elim (λ e. subst Rules e rules) (λ m. later j m (omega arith)) (eq-or-lt-of-le p))
 
-  reads-elements : (i n : ℕ) → Kept i n → Reads (elementsJudged g es i n) [] tt
+  reads-elements : (i n : ℕ) → RulesKept i n → Reads (elementsJudged g es i n) [] tt
   unfolding elementsJudged elementJudged
   reads-elements i zero kept = reads-give tt
   reads-elements i (suc n) kept =
@@ -282,7 +283,7 @@ module _ {limit : ℕ} {g : Graph} {es : List Element} (legal : LegalGraph g) (a
       let numbers = ones-in (length rows) (λ i. times (suc i) rows) all-once in
       rw rows-place (reads-bind _ (reads-here Number numbers) (reads-bind _ (reads-elements g es 1 (length rows) kept) (reads-give es)))
     where
-      kept : Kept g es 1 (length rows)
+      kept : RulesKept g es 1 (length rows)
       kept j p l = (accepted .parents j p (omega (arith, rows-count)), accepted .edges j p (omega (arith, rows-count)))
 
   pub tables-written : tablesFile limit g (tablesBytes g es) 0 ≡ got es (length (tablesBytes g es))

@@ -14,7 +14,8 @@ use Rattle.meaning.proofs.Tests.{and-in, and-left, and-right}
 use Rattle.meaning.proofs.Sets.{below-suc}
 use Rattle.fields.specs.Read.{pick}
 use Rattle.edg.specs.declared.Row.{Row}
-use Rattle.edg.specs.Edg.{count, times, ones, placed, elementsOf, GoodRow}
+use Rattle.edg.specs.inside.GoodRow.{GoodRow}
+use Rattle.edg.specs.Edg.{count, times, ones, placed, elementsOf}
 use Rattle.edg.proofs.Lists.{either, All, all-none, all-more, all-map, all-with, count-none, count-full, count-all, count-split, set-keeps, take-keeps, same-anywhere}
 
 pub ones-out : (n : ℕ) (f : ℕ → ℕ) → ones n f ≡ true → (j : ℕ) → j < n → f j ≡ 1

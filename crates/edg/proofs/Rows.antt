@@ -12,7 +12,8 @@ use Rattle.meaning.specs.Limits.{words}
 use Rattle.meaning.proofs.Tests.{and-in, and-left, and-right}
 use Rattle.fields.proofs.Formats.{Reads, Accepts, Takes, reads-bind, reads-last, takes-bind, takes-weaken, accepts-bind, accepts-give, reads-give, reads-judged, reads-byte, reads-word, takes-judged, takes-byte, takes-word}
 use Rattle.edg.specs.declared.Row.{Row}
-use Rattle.edg.specs.Edg.{rowRule, rowFields, rowRead, rowsRead, tablesRead, rowBytes, rowsBytes, tableBytes, GoodRow}
+use Rattle.edg.specs.inside.GoodRow.{GoodRow}
+use Rattle.edg.specs.Edg.{rowRule, rowFields, rowRead, rowsRead, tablesRead, rowBytes, rowsBytes, tableBytes}
 use Rattle.edg.proofs.Lists.{All, all-none, all-more, all-append, all-map}
 use Rattle.edg.proofs.Tabling.{Ascending, ascending-none, ascending-more}
 
@@ -32,7 +33,7 @@ module _ (limit before : ℕ) (r : Row) where
 
   rule-in : GoodRow limit r → before < r .number → rowRule limit before r ≡ true
   unfolding rowRule
-  rule-in good above = and-in (le-leb _ _ (good .positive)) (and-in (le-leb _ _ (good .most)) (and-in (lt-ltb _ _ above) (lt-ltb _ _ (good .falling))))
+  rule-in good greater = and-in (le-leb _ _ (good .positive)) (and-in (le-leb _ _ (good .most)) (and-in (lt-ltb _ _ greater) (lt-ltb _ _ (good .falling))))
 
 -- a row that may stand in the table of type t
 pub record Fitting (limit t : ℕ) (r : Row) : Type 0 where
@@ -48,8 +49,8 @@ module _ (limit t : ℕ) where
   takes-row : (before : ℕ) → Takes (rowRead limit t before) rowBytes (λ r. Fitting limit t r × (before < r .number))
   unfolding rowRead rowFields
   takes-row before = takes-weaken (takes-judged (rowRule limit before) Number fields) λ r h.
-      let (good, above) = rule-out limit before r (h .1) in
-      (refl, (record { good = good; kind = h .0 .0; text = h .0 .1 }, above))
+      let (good, greater) = rule-out limit before r (h .1) in
+      (refl, (record { good = good; kind = h .0 .0; text = h .0 .1 }, greater))
     where
       fields : Takes (rowFields t) rowBytes (λ r. (r .element .kind ≡ t) × (r .element .text < words))
       fields = takes-bind takes-byte λ from _. takes-bind takes-byte λ to _. takes-bind takes-word λ x small. accepts-give (refl, (refl, small))
@@ -64,16 +65,16 @@ module _ (limit t : ℕ) where
 
   reads-row : {before : ℕ} {r : Row} → Fitting limit t r → before < r .number → Reads (rowRead limit t before) (rowBytes r) r
   unfolding rowRead rowFields
-  reads-row {before} {r} fits above =
+  reads-row {before} {r} fits greater =
       rw (← (fits .kind))
       (reads-judged (rowRule limit before) Number
       (reads-bind _ (reads-byte (r .element .parent)) (reads-bind _ (reads-byte (r .number)) (reads-bind _ (reads-word (r .element .text)) (reads-give r))))
-      (rule-in limit before r (fits .good) above))
+      (rule-in limit before r (fits .good) greater))
 
   pub reads-rows : {before : ℕ} {rs : List Row} → Table limit t before rs → Reads (rowsRead limit t before (length rs)) (rowsBytes rs) rs
   unfolding rowsRead rowsBytes
   reads-rows (ascending-none, all-none) = reads-give []
-  reads-rows (ascending-more above more, all-more fits rest) = reads-bind _ (reads-row fits above) (reads-last _ (reads-rows (more, rest)) (reads-give _))
+  reads-rows (ascending-more greater more, all-more fits rest) = reads-bind _ (reads-row fits greater) (reads-last _ (reads-rows (more, rest)) (reads-give _))
 
 pub rows-length : (rs : List Row) → length (rowsBytes rs) ≡ length rs * 4
 unfolding rowsBytes

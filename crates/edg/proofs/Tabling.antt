@@ -23,7 +23,7 @@ pub data Ascending : ℕ → List Row → Type 0 where
 
 ascending-above : {before : ℕ} {rs : List Row} (m : ℕ) → m ≤ before → Ascending before rs → All (λ r. r .number ≡ m → ⊥) rs
 ascending-above m h ascending-none = all-none
-ascending-above m h (ascending-more {r = r} above more) = all-more {r = r} (λ e. omega arith) (ascending-above m (omega arith) more)
+ascending-above m h (ascending-more {r = r} rise more) = all-more {r = r} (λ e. omega arith) (ascending-above m (omega arith) more)
 
 starts : (r : Row) {rs : List Row} → 1 ≤ r .number → Ascending (r .number) rs → Ascending (r .number - 1) (r ∷ rs)
 starts r p more = let less : r .number - 1 < r .number = omega arith in ascending-more less more
@@ -55,8 +55,8 @@ module _ (es : List Element) where
   pub rows-same : {a b : ℕ} {rs ts : List Row} → Ascending a rs → Ascending b ts → All (Stands es 1) rs → All (Stands es 1) ts → Same rs ts → rs ≡ ts
   unfolding count
   rows-same ascending-none ascending-none p q same = refl
-  rows-same ascending-none (ascending-more {r = t} {rs = ts} up more) p (all-more s q) same = let above = comes-above {a = t .number} t ts ascending-none s (λ j l. sym (same j l)) in absurd (omega arith)
-  rows-same (ascending-more {r = r} {rs} up more) ascending-none (all-more s p) q same = let above = comes-above {a = r .number} r rs ascending-none s same in absurd (omega arith)
+  rows-same ascending-none (ascending-more {r = t} {rs = ts} up more) p (all-more s q) same = let later = comes-above {a = t .number} t ts ascending-none s (λ j l. sym (same j l)) in absurd (omega arith)
+  rows-same (ascending-more {r = r} {rs} up more) ascending-none (all-more s p) q same = let later = comes-above {a = r .number} r rs ascending-none s same in absurd (omega arith)
   rows-same (ascending-more {r = r} {rs} up more) (ascending-more {r = t} {rs = ts} high later) (all-more s p) (all-more z q) same =
       let back = comes-above t ts (starts r (s .from) more) z (λ j l. sym (same j l)) in
       let number : r .number ≡ t .number = omega (arith, comes-above r rs (starts t (z .from) later) s same) in

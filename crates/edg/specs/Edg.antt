@@ -1,5 +1,6 @@
--- EDG: k; then per type in order: row count, rows of from, to, text number, `to` ascending.
-use Prim.Native.Nat.{ℕ, zero, suc, _+_, _-_, _≤_, _<_}
+-- The tables file: k, and behind it a table for every type. A table is the number of its rows and the rows, by rising
+-- number: the parent's number, the element's own, its text number.
+use Prim.Native.Nat.{ℕ, zero, suc, _+_, _-_}
 use mathlib.Core.Bool.{Bool, true, _&&_}
 use mathlib.Core.List.{List, [], _∷_, _++_}
 use lib.Dec.{eqb, ltb, leb}
@@ -103,7 +104,7 @@ elementsJudged g es i (suc n) = do
   elementJudged g es i
   elementsJudged g es (suc i) n
 
--- the whole: numbers are 1 to n, each once; then per element
+-- the rows together: none of the numbers from 1 to n is missing or comes again; then element by element
 unfoldable pub whole : ℕ → Graph → List Row → Reader (List Element)
 whole limit g rs = do
   judgeHere (ones (length rs) (λ i. times (suc i) rs)) Number
@@ -139,9 +140,3 @@ tablesOf es t (suc n) = tableBytes (rowsOf t 1 es) ++ tablesOf es (suc t) n
 -- the tables file of a document
 unfoldable pub tablesBytes : Graph → List Element → List ℕ
 tablesBytes g es = headerOf 0x45 0x44 0x47 1 ++ byteOf (g .k) ++ tablesOf es 0 (g .k)
-
--- a row that may stand in a table, as far as the row alone shows
-pub record GoodRow (limit : ℕ) (r : Row) : Type 0 where
-  pub positive : 1 ≤ r .number
-  pub most : r .number ≤ limit
-  pub falling : r .element .parent < r .number

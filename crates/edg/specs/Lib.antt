@@ -1,2 +1,3 @@
 -- The tables file.
 pub mod Edg
+pub mod inside

@@ -1,2 +1,2 @@
 -- The laws of elements that are kept in numbers.
-pub mod Kept
+pub mod Packing

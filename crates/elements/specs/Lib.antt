@@ -1,2 +1,2 @@
--- The element record.
-pub mod Kept
+-- How elements are kept.
+pub mod inside

@@ -16,8 +16,8 @@ use Rattle.meaning.specs.declared.Reason.{Reason}
 use Rattle.meaning.specs.declared.Reason.the-variants.{Ended, Mark, Version, Extra}
 use Rattle.meaning.specs.declared.Refusal.{Refusal}
 use Rattle.meaning.specs.declared.Outcome.the-variants as outcome
-use Rattle.fields.specs.Outcomes.{outcomeOf}
-use Rattle.fields.specs.Read.{Read, Reader, got, refused, bind, answered, refusalOf, judge, judged, readOf, passed, beside, byte, word, mark, header, end}
+use Rattle.fields.specs.inside.Outcomes.{outcomeOf, readOf, answered, passed, beside}
+use Rattle.fields.specs.Read.{Read, Reader, got, refused, bind, refusalOf, judge, judged, byte, word, mark, header, end}
 use Rattle.fields.specs.declared.Cursor.{Cursor}
 use Rattle.fields.specs.declared.Field.{Field}
 use Rattle.fields.specs.declared.Field.the-variants.{Got, Refused}

@@ -4,7 +4,7 @@ use mathlib.Core.Path.{_≡_, refl}
 use Rattle.meaning.specs.declared.Outcome.the-variants.{Accepted, Refused}
 use Rattle.meaning.specs.declared.Refusal.{Refusal}
 use Rattle.fields.specs.Read.{Read, got, refused}
-use Rattle.fields.specs.Outcomes.{outcomeOf, valueOr}
+use Rattle.fields.specs.inside.Outcomes.{outcomeOf, valueOr}
 
 pub turned : {A : Type 0} (e : Read A) {r : Refusal} → outcomeOf e ≡ Refused r → e ≡ refused r
 turned (got a at) h = cc

@@ -1,3 +1,3 @@
 pub mod Read
 pub mod Write
-pub mod Outcomes
+pub mod inside

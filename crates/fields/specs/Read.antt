@@ -7,8 +7,6 @@ use lib.ListN.{length, getD}
 use Rattle.meaning.specs.declared.Reason.{Reason}
 use Rattle.meaning.specs.declared.Reason.the-variants.{Ended, Mark, Version, Kind, Extra}
 use Rattle.meaning.specs.declared.Refusal.{Refusal}
-use Rattle.fields.specs.declared.Field.{Field}
-use Rattle.fields.specs.declared.Field.the-variants.{Got, Refused}
 
 -- a value and where reading goes on, or why it does not
 pub data Read (A : Type 0) : Type 0 where
@@ -22,6 +20,10 @@ Reader A = List ℕ → ℕ → Read A
 abbrev pub bind : {A B : Type 0} → Read A → (A → ℕ → Read B) → Read B
 bind (got a at) f = f a at
 bind (refused r) f = refused r
+
+-- what is made of what was read
+unfoldable pub mapped : {A B : Type 0} → (A → B) → Read A → Read B
+mapped f e = bind e λ a at. got (f a) at
 
 infixl 10 _>>=_
 infixl 10 _>>_
@@ -95,22 +97,3 @@ ended m = do
   x ← m
   end
   give x
-
--- what a field reader's answer says
-abbrev pub readOf : Field → Read ℕ
-readOf (Got v c) = got v (c .at)
-readOf (Refused r) = refused r
-
--- what is answered for a field, by whether it passes
-unfoldable pub answered : Bool → Field → Refusal → Field
-answered passes field r = pick passes field (Refused r)
-
--- a field that only has to be passed
-abbrev pub passed : Read (Unit {0}) → Read ℕ
-passed (got u at) = got 0 at
-passed (refused r) = refused r
-
--- what stands beside a field's answer was read, or the refusal was met
-abbrev pub beside : {A : Type 0} → Field → A → Read A
-beside (Got v c) a = got a (c .at)
-beside (Refused r) a = refused r

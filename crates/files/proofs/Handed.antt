@@ -4,10 +4,10 @@ use mathlib.Core.Path.{_≡_, ap, subst, _∙_}
 use mathlib.Core.List.{List}
 use Rattle.meaning.specs.declared.Graph.{Graph}
 use Rattle.meaning.specs.declared.Refusal.{Refusal}
-use Rattle.fields.specs.Read.{Read, got, refused, bind}
+use Rattle.fields.specs.Read.{Read, got, refused, bind, mapped}
 use Rattle.fields.proofs.Formats.{bind-out, got-same}
 use Rattle.graph.specs.Gra.{graphFile}
-use Rattle.files.specs.Files.{under, mapped, then}
+use Rattle.files.specs.Files.{under, followedBy}
 
 pub under-got : {A : Type 0} (gra : List ℕ) (f : Graph → Read A) {g : Graph} {a : A} {m n : ℕ} → graphFile gra 0 ≡ got g m → f g ≡ got a n → under gra f ≡ got (g, a) n
 unfolding under
@@ -21,12 +21,12 @@ under-out {A} gra f {n = n} e =
     let (same, end) = got-same last in
     (m, graph ∙ ap (λ x. got (x .0) m) same, subst (λ x. f (x .0) ≡ got (x .1) n) same (value ∙ ap (got a) end))
 
-pub then-got : {A B : Type 0} (x : Read A) (y : Read B) {a : A} {b : B} {m n : ℕ} → x ≡ got a m → y ≡ got b n → then x y ≡ got (a, b) n
-unfolding then
+pub then-got : {A B : Type 0} (x : Read A) (y : Read B) {a : A} {b : B} {m n : ℕ} → x ≡ got a m → y ≡ got b n → followedBy x y ≡ got (a, b) n
+unfolding followedBy
 then-got x y p q = rw (p, q)
 
-pub then-out : {A B : Type 0} (x : Read A) (y : Read B) {z : A × B} {n : ℕ} → then x y ≡ got z n → (m : ℕ) × (x ≡ got (z .0) m) × (y ≡ got (z .1) n)
-unfolding then
+pub then-out : {A B : Type 0} (x : Read A) (y : Read B) {z : A × B} {n : ℕ} → followedBy x y ≡ got z n → (m : ℕ) × (x ≡ got (z .0) m) × (y ≡ got (z .1) n)
+unfolding followedBy
 then-out {A} {B} x y {n = n} e =
     let (a, m, first, rest) = bind-out x (λ a _. bind {B = A × B} y λ b n. got (a, b) n) e in
     let (b, l, second, last) = bind-out y (λ b n. got (a, b) n) rest in

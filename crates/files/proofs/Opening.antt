@@ -17,30 +17,31 @@ use Rattle.meaning.specs.Limits.{elementLimit, queryLimit}
 use Rattle.meaning.specs.Graphs.{LegalGraph}
 use Rattle.meaning.specs.Documents.{Accepted}
 use Rattle.meaning.specs.Queries.{XPath}
-use Rattle.meaning.specs.Records.{operationsIn}
+use Rattle.meaning.specs.inside.Records.{operationsIn}
 use Rattle.fields.specs.Read.{Read, got, refused, bind}
-use Rattle.fields.specs.Outcomes.{outcomeOf, valueOr}
+use Rattle.fields.specs.inside.Outcomes.{outcomeOf, valueOr}
 use Rattle.fields.proofs.Outcomes.{turned, held}
 use Rattle.elements.specs.declared.ElementsRead.{ElementsRead}
-use Rattle.elements.specs.Kept.{keptIn, Keeps}
-use Rattle.elements.proofs.Kept.{held-long}
+use Rattle.elements.specs.inside.Packing.{keptIn, Keeps}
+use Rattle.elements.proofs.Packing.{held-long}
 use Rattle.graph.specs.declared.GraphRead.{GraphRead}
 use Rattle.graph.specs.Gra.{graphFile}
-use Rattle.graph.specs.Answers.{graphRead}
-use Rattle.graph.proofs.Held.{graph-turned, graph-held, graph-legal}
+use Rattle.graph.specs.inside.GraphRead.{graphRead}
+use Rattle.graph.proofs.Known.{graph-turned, graph-held, graph-legal}
 use Rattle.tre.specs.Tre.{documentFile}
 use Rattle.tre.proofs.File.{document-read}
 use Rattle.edg.specs.Edg.{tablesFile}
 use Rattle.edg.proofs.File.{tables-read}
 use Rattle.query.specs.declared.QueryRead.{QueryRead}
 use Rattle.query.specs.Qry.{queryFile}
-use Rattle.query.specs.Answers.{queryRead}
+use Rattle.query.specs.inside.PartsRead.{queryRead}
 use Rattle.rel.specs.Rel.{programFile}
 use Rattle.program.specs.declared.ProgramRead.{ProgramRead}
-use Rattle.program.specs.Answers.{programRead}
-use Rattle.program.proofs.Held.{program-turned, program-held, program-count, program-legal}
+use Rattle.program.specs.inside.ProgramRead.{ReadsProgram}
+use Rattle.program.proofs.Known.{program-turned, program-held, program-count, program-legal}
 use Rattle.files.proofs.Handed.{under-out}
-use Rattle.files.specs.Files.{under, then, documentUnder, tablesUnder, queryUnder, programUnder, tablesThenQuery, tablesThenProgram, Opens, OfElements, OfQuery, OfProgram, OfTablesThenQuery, OfTablesThenProgram}
+use Rattle.files.specs.inside.Opens.{Opens, OfElements, OfQuery, OfProgram, OfTablesThenQuery, OfTablesThenProgram}
+use Rattle.files.specs.Files.{under, followedBy, documentUnder, tablesUnder, queryUnder, programUnder, tablesThenQuery, tablesThenProgram}
 
 -- a refusal that is handed on
 away : {A : Type 0} {e : Read A} {r : Refusal} (P : A → Type 0) → e ≡ refused r → Opens e (outcome.Refused r) P
@@ -69,11 +70,11 @@ module _ (k : ℕ) (qry : List ℕ) {y : QueryRead} (p : y ≡ queryRead (queryF
   query-held : y .outcome ≡ outcome.Accepted → (q : XPath × ℕ) × (n : ℕ) × (queryFile k qry 0 ≡ got q n) × (y .nodes ≡ queryLimit - q .1)
   query-held h = let (n, e) = held (XPath.self, 0) (queryFile k qry 0) (sym (ap (λ y. y .outcome) p ∙ query-out (queryFile k qry 0)) ∙ h) in (_, n, e, ap (λ y. y .nodes) p ∙ ap (λ e. queryRead e .nodes) e)
 
-of-program : (g : Graph) → LegalGraph g → (rel : List ℕ) {y : ProgramRead} → y ≡ programRead (programFile (g .k) rel 0) → ((i : ℕ) → Fits w8 (getD rel i 0)) → y .outcome ≡ outcome.Accepted
+of-program : (g : Graph) → LegalGraph g → (rel : List ℕ) {y : ProgramRead} → ReadsProgram y (programFile (g .k) rel 0) → ((i : ℕ) → Fits w8 (getD rel i 0)) → y .outcome ≡ outcome.Accepted
     → (os : List Operation) × (n : ℕ) × (programFile (g .k) rel 0 ≡ got os n) × OfProgram g (y .program) (g, os)
 of-program g legal rel {y} p b h =
-    let (n, e) = program-held (g .k) rel p h in
-    (operationsIn (y .program), n, e, record { graph = refl; steps = refl; legal = legal; lawful = program-legal (g .k) rel p b h; whole = program-count (g .k) rel p })
+    let (n, e) = program-held (g .k) rel (p .is) h in
+    (operationsIn (y .program), n, e, record { graph = refl; steps = refl; legal = legal; lawful = program-legal (g .k) rel (p .is) b h; whole = program-count (g .k) rel (p .is); numbered = p .numbered })
 
 module _ (gra : List ℕ) {x : GraphRead} (p : x ≡ graphRead (graphFile gra 0)) where
   -- the graph is refused
@@ -127,18 +128,18 @@ module _ (gra : List ℕ) {x : GraphRead} (p : x ≡ graphRead (graphFile gra 0)
         follows (λ g. queryFile (g .k) qry 0) (OfQuery (x .graph) (y .nodes)) (λ r h. query-turned (x .graph .k) qry q h)
         λ h. let (p, n, e, w) = query-held (x .graph .k) qry q h in (p, n, e, record { graph = refl; legal = legal; counts = w })
 
-    pub program-opened : (rel : List ℕ) {y : ProgramRead} → ((i : ℕ) → Fits w8 (getD rel i 0)) → y ≡ programRead (programFile (x .graph .k) rel 0)
+    pub program-opened : (rel : List ℕ) {y : ProgramRead} → ((i : ℕ) → Fits w8 (getD rel i 0)) → ReadsProgram y (programFile (x .graph .k) rel 0)
         → Opens (programUnder gra rel) (y .outcome) (OfProgram (x .graph) (y .program))
     program-opened rel {y} b q =
-        follows (λ g. programFile (g .k) rel 0) (OfProgram (x .graph) (y .program)) (λ r h. program-turned (x .graph .k) rel q h)
+        follows (λ g. programFile (g .k) rel 0) (OfProgram (x .graph) (y .program)) (λ r h. program-turned (x .graph .k) rel (q .is) h)
         λ h. of-program (x .graph) legal rel q b h
 
 -- Behind tables that are there, what follows decides.
 module _ (gra edg : List ℕ) {o : Outcome} {g : Graph} {kept : List ℕ} {count : ℕ} (p : Opens (tablesUnder gra edg) o (OfElements g kept count)) where
   module _ {A : Type 0} (f : Graph → Read A) where
     -- the tables are refused, or the graph before them
-    tables-away : (P : Graph × (List Element × A) → Type 0) {r : Refusal} → o ≡ outcome.Refused r → Opens (under gra λ g. then (tablesFile elementLimit g edg 0) (f g)) o P
-    unfolding under then
+    tables-away : (P : Graph × (List Element × A) → Type 0) {r : Refusal} → o ≡ outcome.Refused r → Opens (under gra λ g. followedBy (tablesFile elementLimit g edg 0) (f g)) o P
+    unfolding under followedBy
     tables-away P {r} h = rw h (away P (by-graph (graphFile gra 0) (p .turned h)))
       where
         by-tables : (g : Graph) (t : Read (List Element)) → bind {B = Graph × List Element} t (λ a n. got (g, a) n) ≡ refused r
@@ -155,8 +156,8 @@ module _ (gra edg : List ℕ) {o : Outcome} {g : Graph} {kept : List ℕ} {count
     module _ (h : o ≡ outcome.Accepted) where
       tables-follow : (P : Graph × (List Element × A) → Type 0) {o′ : Outcome} → ((r : Refusal) → o′ ≡ outcome.Refused r → f g ≡ refused r)
           → (o′ ≡ outcome.Accepted → (a : A) × (n : ℕ) × (f g ≡ got a n) × ((es : List Element) → OfElements g kept count (g, es) → P (g, (es, a))))
-          → Opens (under gra λ g. then (tablesFile elementLimit g edg 0) (f g)) o′ P
-      unfolding under then
+          → Opens (under gra λ g. followedBy (tablesFile elementLimit g edg 0) (f g)) o′ P
+      unfolding under followedBy
       tables-follow P away on =
           let (x, n, e, w) = p .held h in
           let (m, read, tables) = under-out gra (λ g. tablesFile elementLimit g edg 0) e in
@@ -181,10 +182,10 @@ module _ (gra edg : List ℕ) {o : Outcome} {g : Graph} {kept : List ℕ} {count
         tables-follow (λ g. queryFile (g .k) qry 0) h (OfTablesThenQuery g kept count) (λ r i. query-turned (g .k) qry q i)
         λ i. let (a, n, e, _) = query-held (g .k) qry q i in (a, n, e, λ es w. w)
 
-    pub program-behind : (rel : List ℕ) {y : ProgramRead} → ((i : ℕ) → Fits w8 (getD rel i 0)) → y ≡ programRead (programFile (g .k) rel 0)
+    pub program-behind : (rel : List ℕ) {y : ProgramRead} → ((i : ℕ) → Fits w8 (getD rel i 0)) → ReadsProgram y (programFile (g .k) rel 0)
         → Opens (tablesThenProgram gra edg rel) (y .outcome) (OfTablesThenProgram kept count (y .program))
     program-behind rel {y} b q =
-        tables-follow (λ g. programFile (g .k) rel 0) h (OfTablesThenProgram kept count (y .program)) (λ r i. program-turned (g .k) rel q i)
+        tables-follow (λ g. programFile (g .k) rel 0) h (OfTablesThenProgram kept count (y .program)) (λ r i. program-turned (g .k) rel (q .is) i)
         λ i. let (_, _, _, w) = p .held h in let (os, n, e, v) = of-program g (w .legal) rel q b i in (os, n, e, λ es u. record { elements = u; steps = v })
 
 pub ruleset laws = (graph-away, document-opened, tables-opened, query-opened, program-opened, query-away, program-away, query-behind, program-behind, needs)

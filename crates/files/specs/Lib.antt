@@ -1,2 +1,3 @@
 -- The files of a call.
 pub mod Files
+pub mod inside

@@ -3,8 +3,9 @@
 ghost use mathlib.Core.Path.{_≡_};
 ghost use lib.ListN.{length};
 ghost use Rattle.meaning.specs.Limits.{elementLimit};
-ghost use Rattle.elements.specs.Kept.{blankPlaces};
-ghost use Rattle.files.specs.Files.{documentUnder, tablesUnder, queryUnder, programUnder, tablesThenQuery, tablesThenProgram, Opens, OfElements, OfQuery, OfProgram, OfTablesThenQuery, OfTablesThenProgram};
+ghost use Rattle.elements.specs.inside.Packing.{blankPlaces};
+ghost use Rattle.files.specs.inside.Opens.{Opens, OfElements, OfQuery, OfProgram, OfTablesThenQuery, OfTablesThenProgram};
+ghost use Rattle.files.specs.Files.{documentUnder, tablesUnder, queryUnder, programUnder, tablesThenQuery, tablesThenProgram};
 use meaning::Graph;
 use meaning::Outcome;
 use meaning::Program;

@@ -2,4 +2,4 @@
 pub mod MaskReading
 pub mod Reading
 pub mod File
-pub mod Held
+pub mod Known

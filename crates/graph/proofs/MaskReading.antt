@@ -11,7 +11,8 @@ use Rattle.meaning.specs.Limits.{types}
 use Rattle.fields.specs.declared.Cursor.{Cursor}
 use Rattle.fields.specs.declared.Field.{Field}
 use Rattle.fields.specs.declared.Field.the-variants.{Got, Refused}
-use Rattle.fields.specs.Read.{Read, got, refused, bind, maskBelow, readOf, beside}
+use Rattle.fields.specs.inside.Outcomes.{readOf, beside}
+use Rattle.fields.specs.Read.{Read, got, refused, bind, maskBelow}
 use Rattle.fields.proofs.Laws.{taken, handed}
 use Rattle.graph.specs.Gra.{masks, allMasks}
 

@@ -18,14 +18,14 @@ use Rattle.meaning.proofs.Tests.{and-right}
 use Rattle.fields.specs.declared.Cursor.{Cursor}
 use Rattle.fields.specs.declared.Field.{Field}
 use Rattle.fields.specs.declared.Field.the-variants.{Got, Refused}
-use Rattle.fields.specs.Read.{Read, Reader, got, refused, judge, judged, byteBelow, byteUpTo, header, end, readOf, passed, beside, ended}
-use Rattle.fields.specs.Outcomes.{outcomeOf}
+use Rattle.fields.specs.Read.{Read, Reader, got, refused, judge, judged, byteBelow, byteUpTo, header, end, ended}
+use Rattle.fields.specs.inside.Outcomes.{outcomeOf, readOf, passed, beside}
 use Rattle.fields.proofs.Laws.{taken, handed, taken-passed, handed-passed, beside-got, beside-refused}
 use Rattle.fields.proofs.Formats.{bind-out, judge-out, got-same}
 use Rattle.graph.specs.declared.GraphRead.{GraphRead}
 use Rattle.graph.specs.declared.MasksRead.{MasksRead}
 use Rattle.graph.specs.Gra.{allMasks, typesRead, graph, graphFile}
-use Rattle.graph.specs.Answers.{noGraph, graphRead}
+use Rattle.graph.specs.inside.GraphRead.{noGraph, graphRead}
 
 -- what is answered where a field turned the file away
 abbrev refusedBy : Field → GraphRead

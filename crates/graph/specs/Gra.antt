@@ -1,4 +1,4 @@
--- GRA: k; root type; k masks of 16 bits, bit t set when type t may be a child.
+-- The graph file: k, the root type, and a mask for every type, whose bits are its child types.
 use Prim.Native.Nat.{ℕ, zero, suc, _-_}
 use mathlib.Core.List.{List, [], _∷_, _++_}
 use lib.ListN.{take, replicate}

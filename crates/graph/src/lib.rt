@@ -2,10 +2,10 @@
 ghost use mathlib.Core.Path.{_≡_};
 ghost use Prim.Native.Nat.{_≤_};
 ghost use Rattle.meaning.specs.Limits.{types};
-ghost use Rattle.fields.specs.Read.{readOf, beside, ended};
-ghost use Rattle.fields.specs.Outcomes.{outcomeOf};
+ghost use Rattle.fields.specs.Read.{ended};
+ghost use Rattle.fields.specs.inside.Outcomes.{outcomeOf, readOf, beside};
 ghost use Rattle.graph.specs.Gra.{allMasks, typesRead, graphFile};
-ghost use Rattle.graph.specs.Answers.{noGraph, graphRead};
+ghost use Rattle.graph.specs.inside.GraphRead.{noGraph, graphRead};
 use fields::Cursor;
 use fields::Field;
 use meaning::Graph;

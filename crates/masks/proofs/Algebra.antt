@@ -14,6 +14,7 @@ use borrow.Author.Tests.{eqb-true}
 use Rattle.meaning.specs.Limits.{kinds}
 use Rattle.meaning.specs.Lists.{table}
 use Rattle.meaning.specs.Sets.{bit, mask}
+use Rattle.meaning.specs.inside.Diagonal.{diagonal}
 use Rattle.meaning.specs.Relations.{Relation, nothing, unite, intersection, join, has, within, closure}
 use Rattle.meaning.proofs.Tests.{never, and-left, and-right, and-where, and-implied, or-out}
 use Rattle.meaning.proofs.Sets.{any-out, any-cong, bit-mask, bit-none}
@@ -23,7 +24,8 @@ use Rattle.kinds.proofs.KindMasks.{Upto, upto-all, imageUpto, image-none, image
 use Rattle.masks.specs.declared.Announced.{Announced}
 use Rattle.masks.specs.declared.Mix.{Mix}
 use Rattle.masks.specs.declared.Mix.the-variants.{Either, Both, Joined}
-use Rattle.masks.specs.Pairs.{relOf, mixture, diagonal, imageOf}
+use Rattle.masks.specs.Announcement.{relOf}
+use Rattle.masks.specs.inside.Pairs.{mixture, imageOf}
 use Rattle.masks.proofs.Rows.{FromKinds, Rows, pairs-from, from-same, rows-none, rows-more, rows-all}
 
 -- the same mask for every kind

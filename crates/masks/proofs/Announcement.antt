@@ -23,8 +23,7 @@ use Rattle.meaning.proofs.Bits.{same-bits, bits-of-mask}
 use Rattle.meaning.proofs.Sets.{bit-none}
 use Rattle.meaning.proofs.Lists.{table-length, table-at}
 use Rattle.masks.specs.declared.Announced.{Announced}
-use Rattle.masks.specs.Pairs.{relOf}
-use Rattle.masks.specs.Announcement.{announcedSets, announcement}
+use Rattle.masks.specs.Announcement.{announcedSets, announcement, relOf}
 use Rattle.masks.proofs.Rows.{pairs-from, from-same}
 
 module _ (r : Relation) (on : On kinds r) where

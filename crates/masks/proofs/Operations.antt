@@ -12,6 +12,7 @@ use Rattle.meaning.specs.declared.Operation.{Operation}
 use Rattle.meaning.specs.declared.Operation.the-variants.{Table, Itself, Text, Join, Union, Closure, Has, Diff, Both}
 use Rattle.meaning.specs.Limits.{kinds, types, document}
 use Rattle.meaning.specs.Sets.{bit, mask}
+use Rattle.meaning.specs.inside.Diagonal.{diagonal}
 use Rattle.meaning.specs.Relations.{Relation, join, unite, has, intersection, closure, at}
 use Rattle.meaning.specs.Graphs.{LegalGraph, childKind, live}
 use Rattle.meaning.specs.Announcements.{pairs}
@@ -21,7 +22,8 @@ use Rattle.meaning.proofs.KindSets.{live-small, edges-on}
 use Rattle.meaning.proofs.Bits.{bit-and, bits-of-mask}
 use Rattle.kinds.proofs.KindMasks.{chosen-bits}
 use Rattle.masks.specs.declared.Announced.{Announced}
-use Rattle.masks.specs.Pairs.{relOf, diagonal, operandsOf}
+use Rattle.masks.specs.Announcement.{relOf}
+use Rattle.masks.specs.inside.Pairs.{operandsOf}
 use Rattle.masks.proofs.Rows.{FromKinds}
 use Rattle.masks.proofs.Algebra.{algebra}
 

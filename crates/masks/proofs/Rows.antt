@@ -14,7 +14,7 @@ use Rattle.meaning.specs.Relations.{Relation}
 use Rattle.meaning.proofs.Tests.{never, same}
 use Rattle.meaning.proofs.Sets.{bit-none}
 use Rattle.masks.specs.declared.Announced.{Announced}
-use Rattle.masks.specs.Pairs.{relOf}
+use Rattle.masks.specs.Announcement.{relOf}
 
 -- every pair starts at a kind
 pub record FromKinds (r : Relation) : Type 0 where

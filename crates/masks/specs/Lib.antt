@@ -1,2 +1,2 @@
-pub mod Pairs
 pub mod Announcement
+pub mod inside

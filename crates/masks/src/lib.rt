@@ -6,12 +6,13 @@ ghost use Prim.Native.Nat.{ℕ, _<_};
 ghost use Rattle.meaning.specs.declared.Operation.the-variants.{Table};
 ghost use Rattle.meaning.specs.Limits.{kinds};
 ghost use Rattle.meaning.specs.Sets.{bit};
+ghost use Rattle.meaning.specs.inside.Diagonal.{diagonal};
 ghost use Rattle.meaning.specs.Relations.{Relation, nothing, closure, has, at};
 ghost use Rattle.meaning.specs.Graphs.{LegalGraph};
 ghost use Rattle.meaning.specs.Announcements.{pairs};
-ghost use Rattle.meaning.specs.Records.{operationsIn};
-ghost use Rattle.masks.specs.Pairs.{relOf, mixture, diagonal, imageOf, operandsOf, Legal};
-ghost use Rattle.masks.specs.Announcement.{announcement};
+ghost use Rattle.meaning.specs.inside.Records.{operationsIn};
+ghost use Rattle.masks.specs.inside.Pairs.{mixture, imageOf, operandsOf, LegalUnder};
+ghost use Rattle.masks.specs.Announcement.{announcement, relOf};
 use meaning::Graph;
 use meaning::Operation;
 use meaning::Program;
@@ -192,7 +193,7 @@ fn pairs(g: Graph, operation: Operation, a: Announced, b: Announced) -> Announce
 
 // Step by step, each from those before it. Its operands alone are handed on: all steps by value would be copied at each call.
 pub fn announce(g: Graph, p: Program) -> [Announced; STEPS]
-    requires { ⌜ Legal g p ⌝ }
+    requires { ⌜ LegalUnder g p ⌝ }
     ensures { λ r. ⌜ r ≡ announcement g (operationsIn p) ⌝ }
 {
     let count = p.count;
@@ -206,7 +207,8 @@ pub fn announce(g: Graph, p: Program) -> [Announced; STEPS]
         let first = numbers::u8_to_usize(read.0);
         let second = numbers::u8_to_usize(read.1);
         let made = pairs(g, operation, steps[first], steps[second]);
-        steps[i] = made;
+        let number = numbers::u8_to_usize(step.number);
+        steps[number] = made;
         i += 1;
     }
     steps

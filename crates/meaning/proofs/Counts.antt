@@ -189,7 +189,7 @@ unfoldable mutual
 mutual
   unfolding pathCount qualifierCount slashesOf slashesIn notsOf notsIn
 
-  -- the step count is the query's nodes, plus five for each // and one for each not
+  -- a step for each node of the query, five more per // and one more per not
   pub count-split : (p : XPath) → pathCount 5 1 p ≡ pathCount 0 0 p + 5 * slashesOf p + notsOf p
   count-split self = omega arith
   count-split (child t) = omega arith

@@ -1,4 +1,4 @@
--- Document 01's example: one document, fourteen queries, computed from the definitions.
+-- The worked example of docs/RULES.md: one document, fourteen queries, computed from the definitions.
 use Prim.Native.Nat.{ℕ, zero, suc}
 use mathlib.Core.Path.{_≡_, refl}
 use mathlib.Core.List.{List, [], _∷_, map}
@@ -14,7 +14,7 @@ use Rattle.meaning.specs.Operations.{last, rows, results, run, answer}
 use Rattle.meaning.specs.Announcements.{pairs, announced}
 use Rattle.meaning.specs.Translation.{image, only, together, orReachable, out, step, then, thenBoth, descend, path, translated, stepCount}
 
--- archive to group; group to group and station; station to remark; remark to station
+-- 0 archive, 1 group, 2 station, 3 remark: groups nest and hold stations, a station has remarks, and a remark stations
 graph : Graph
 graph = record { k = 4; root = 0; children = 2 ∷ 6 ∷ 8 ∷ 4 ∷ 0 ∷ 0 ∷ 0 ∷ 0 ∷ 0 ∷ 0 ∷ 0 ∷ 0 ∷ 0 ∷ 0 ∷ 0 ∷ 0 ∷ [] }
 

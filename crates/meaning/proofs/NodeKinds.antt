@@ -16,7 +16,7 @@ use Rattle.meaning.specs.Translation.{image, orReachable, out}
 use Rattle.meaning.proofs.Tests.{and-in, and-left, and-right, or-left, or-right, or-out}
 use Rattle.meaning.proofs.Sets.{any-in, any-out}
 use Rattle.meaning.proofs.Closure.{steps-map}
-use Rattle.meaning.proofs.Views.{Keeps, parent-element, parent-is, element-there, below-there, below-steps}
+use Rattle.meaning.proofs.Views.{Lawful, parent-element, parent-is, element-there, below-there, below-steps}
 use Rattle.meaning.proofs.KindSets.{together-bit, only-bit, image-in, edge-types, reachable-in, live-child}
 
 -- a node is the document node or an element
@@ -34,7 +34,7 @@ unfolding some
 some-out d f k h =
     any-out (d .size) (λ u. d .there u && f u) (λ u l e. k u (and-left (d .there u) (f u) e) (and-right (d .there u) (f u) e)) h
 
-module _ (g : Graph) (legal : LegalGraph g) (d : View) (keeps : Keeps g d) where
+module _ (g : Graph) (legal : LegalGraph g) (d : View) (keeps : Lawful g d) where
   pub edge-below : (v w : ℕ) → isParent d v w ≡ true → childKind g (d .kind v) (d .kind w) ≡ true
   edge-below v w h = rw (← parent-is d v w h) (keeps .edge w (parent-element d v w h))
 

@@ -19,7 +19,7 @@ use Rattle.meaning.specs.Translation.{Adds, step, then, thenBoth, image,
 use Rattle.meaning.proofs.Tests.{same, and-in, and-left, and-right, and-where, and-cong, and-implied}
 use Rattle.meaning.proofs.Sets.{any-in, any-out, listed-cong}
 use Rattle.meaning.proofs.Closure.{closure-sound, closure-complete, steps-map}
-use Rattle.meaning.proofs.Views.{Keeps, parent-element, element-there, below-steps, steps-below}
+use Rattle.meaning.proofs.Views.{Lawful, parent-element, element-there, below-steps, steps-below}
 use Rattle.meaning.proofs.KindSets.{only-bit}
 use Rattle.meaning.proofs.NodeKinds.{some-in, some-out, kind-small, child-kinds, below-kinds, deep-kinds, out-kinds}
 use Rattle.meaning.proofs.Runs.{Longer, longer-step, last-new, OnNodes, run-keep, lastResult, step-result, run-nodes}
@@ -34,7 +34,7 @@ record Makes (d : View) (S : ℕ → Type 0) (a : Adds) (r : Relation) : Type 0 
   longer : (os : List Operation) → Longer os (a os)
   made : (os : List Operation) → Same d S (lastResult d (a os)) r
 
-module _ (g : Graph) (d : View) (keeps : Keeps g d) where
+module _ (g : Graph) (d : View) (keeps : Lawful g d) where
   -- a search over all numbers finds what one over the nodes does, where only nodes can pass
   any-some : (f h : ℕ → Bool) → ((u : ℕ) → f u ≡ true → d .there u ≡ true) → ((u : ℕ) → d .there u ≡ true → f u ≡ h u) → any (d .size) f ≡ some d h
   any-some f h nodes agree =
@@ -145,7 +145,7 @@ root-context : bit (mask kinds (λ A. eqb A document)) document ≡ true
 unfolding bit mask
 root-context = refl
 
-module _ (g : Graph) (legal : LegalGraph g) (d : View) (keeps : Keeps g d) where
+module _ (g : Graph) (legal : LegalGraph g) (d : View) (keeps : Lawful g d) where
   -- a node of one of the kinds C
   record Inside (C v : ℕ) : Type 0 where
     there : d .there v ≡ true

@@ -21,7 +21,7 @@ use Rattle.meaning.proofs.Sets.{any-in, any-out, listed-none}
 use Rattle.meaning.proofs.Closure.{closure-sound, closure-complete, steps-map}
 use Rattle.meaning.proofs.Ends.{Ends, diagonal-ends, join-ends, unite-ends, has-ends, intersection-ends, closure-ends}
 use Rattle.meaning.proofs.Results.{results-agree}
-use Rattle.meaning.proofs.Views.{Keeps, element-there, parent-element, parent-is, test-element}
+use Rattle.meaning.proofs.Views.{Lawful, element-there, parent-element, parent-is, test-element}
 use Rattle.meaning.proofs.KindSets.{edge-types, live-child, live-small}
 use Rattle.meaning.proofs.NodeKinds.{edge-below, kind-small, kinds-live}
 use Rattle.meaning.proofs.Runs.{OnNodes, rows-nodes}
@@ -53,7 +53,7 @@ module _ (g : Graph) (legal : LegalGraph g) where
   unfolding announced
   announced-live os s = results-agree (λ p q. OnLive p) (λ A B h. never h) (pairs g) (pairs g) (λ ps qs o on. pairs-live ps o on) os s
 
-  module _ (d : View) (keeps : Keeps g d) where
+  module _ (d : View) (keeps : Lawful g d) where
     -- each row of r joins a pair of p
     abbrev Covers : Relation → Relation → Type 0
     Covers r p = (v w : ℕ) → r v w ≡ true → p (d .kind v) (d .kind w) ≡ true

@@ -9,7 +9,7 @@ use lib.ListN.{length}
 use Rattle.meaning.specs.declared.Graph.{Graph}
 use Rattle.meaning.specs.declared.Element.{Element}
 use Rattle.meaning.specs.declared.Operation.{Operation}
-use Rattle.meaning.specs.Limits.{document}
+use Rattle.meaning.specs.Limits.{document, kinds}
 use Rattle.meaning.specs.Sets.{bit}
 use Rattle.meaning.specs.Relations.{Relation, OneOrMore, closure, at}
 use Rattle.meaning.specs.Graphs.{LegalGraph, live}
@@ -20,7 +20,9 @@ use Rattle.meaning.specs.Announcements.{announced}
 use Rattle.meaning.specs.Translation.{path, translated, stepCount}
 use Rattle.meaning.proofs.Closure.{On, closure-sound, closure-complete}
 use Rattle.meaning.proofs.Views.{accepted-keeps, below-steps, steps-below}
+use Rattle.meaning.proofs.KindSets.{live-small}
 use Rattle.meaning.proofs.NodeKinds.{kinds-live}
+use Rattle.meaning.proofs.Runs.{run-nodes}
 use Rattle.meaning.proofs.Counts.{slashesOf, notsOf, count-split, translated-length, translated-legal}
 use Rattle.meaning.proofs.Right.{path-right, translated-right}
 use Rattle.meaning.proofs.Sound.{announced-live, run-announced, none-selected}
@@ -29,7 +31,7 @@ use Rattle.meaning.proofs.Sound.{announced-live, run-announced, none-se
 pub closure-is-one-or-more : (n : ℕ) (r : Relation) → On n r → (v w : ℕ) → closure n r v w ≡ true ↔ OneOrMore r v w
 closure-is-one-or-more n r on v w = (closure-sound n r, closure-complete n r on)
 
--- The step count is the query's nodes, plus five for each // and one for each not; and so many steps are written.
+-- A query has a step for each of its nodes, five more per // and one more per not; and so many steps are written.
 pub step-count : (p : XPath) → stepCount p ≡ queryNodes p + 5 * slashesOf p + notsOf p
 unfolding stepCount queryNodes
 step-count p = count-split p
@@ -42,6 +44,11 @@ module _ (g : Graph) (legal : LegalGraph g) where
   pub translation-is-legal : (limit : ℕ) (p : XPath) → LegalPath (g .k) p → stepCount p ≤ limit → LegalProgram limit (g .k) (translated g p)
   translation-is-legal limit p = translated-legal limit g legal p
 
+  -- LFP over announced pairs is the inductive closure, for any step of any program.
+  pub announced-closure-is-one-or-more : (os : List Operation) (s A B : ℕ) → closure kinds (at (announced g os) s) A B ≡ true ↔ OneOrMore (at (announced g os) s) A B
+  announced-closure-is-one-or-more os s =
+      closure-is-one-or-more kinds (at (announced g os) s) λ A B h. let (a, b) = announced-live g legal os s A B h in (live-small g legal A a, live-small g legal B b)
+
   -- Only live kinds are announced, for any step of any program.
   pub announced-kinds-are-live : (os : List Operation) (s A B : ℕ) → at (announced g os) s A B ≡ true → (live g A ≡ true) × (live g B ≡ true)
   announced-kinds-are-live os s A B h = announced-live g legal os s A B h
@@ -51,6 +58,12 @@ module _ (g : Graph) (legal : LegalGraph g) where
     pub kinds-are-live : (v : ℕ) → v ≤ length es → live g (node es v .kind) ≡ true
     unfolding view
     kinds-are-live v l = kinds-live g legal (view es) (accepted-keeps limit g es accepted) v (le-leb v (length es) l)
+
+    -- LFP over the rows of a run is the inductive closure, for any step of any program.
+    pub run-closure-is-one-or-more : (os : List Operation) (s v w : ℕ) → closure (view es .size) (at (run (view es) os) s) v w ≡ true ↔ OneOrMore (at (run (view es) os) s) v w
+    run-closure-is-one-or-more os s =
+        let keeps = accepted-keeps limit g es accepted in
+        closure-is-one-or-more (view es .size) (at (run (view es) os) s) λ v w h. let (a, b) = run-nodes (view es) (keeps .parent-there) os s v w h in (keeps .bounded v a, keeps .bounded w b)
 
     -- Below, which goes by the parents, is one or more steps from parent to child.
     pub below-is-one-or-more : (v w : ℕ) → below (view es) v w ≡ true ↔ OneOrMore (isParent (view es)) v w

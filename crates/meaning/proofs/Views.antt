@@ -17,7 +17,7 @@ use Rattle.meaning.specs.Documents.{View, isElement, isParent, above, be
 use Rattle.meaning.proofs.Tests.{never, and-in, and-left, and-right, and-where, or-left, or-right, or-out}
 
 -- All that the theorems ask of a view.
-pub record Keeps (g : Graph) (d : View) : Type 0 where
+pub record Lawful (g : Graph) (d : View) : Type 0 where
   pub root-there : d .there 0 ≡ true
   pub root-kind : d .kind 0 ≡ document
   pub bounded : (v : ℕ) → d .there v ≡ true → v < d .size
@@ -106,7 +106,7 @@ module _ (limit : ℕ) (g : Graph) (es : List Element) (accepted : Accepted limi
   less-before zero i l e = absurd (not-suc-le-zero l)
   less-before (suc n) i l e = less-at i (λ j m. less-before n j (omega arith)) e
 
-  pub accepted-keeps : Keeps g (view es)
+  pub accepted-keeps : Lawful g (view es)
   unfolding view edgeRule node
   accepted-keeps = record {
     root-there = le-leb 0 (length es) (omega arith);
@@ -117,7 +117,7 @@ module _ (limit : ℕ) (g : Graph) (es : List Element) (accepted : Accepted limi
     edge = λ w e. accepted .edges w (element-positive (view es) w e) (there-below w e);
   }
 
-module _ (g : Graph) (d : View) (keeps : Keeps g d) where
+module _ (g : Graph) (d : View) (keeps : Lawful g d) where
   -- w has fewer than k nodes above it, so a k-th parent is never asked for
   above-enough : (k v w : ℕ) → w < k → above (suc k) d v w ≡ above k d v w
   unfolding above

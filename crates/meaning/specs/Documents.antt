@@ -1,4 +1,5 @@
--- Nodes: 0, the document node, and elements 1 to n in document order; and which documents are accepted.
+-- What a document shows: node 0 stands for the document itself, the other nodes are its elements, numbered as they open. And
+-- which documents are accepted.
 use Prim.Native.Nat.{ℕ, zero, suc, _-_, _<_, _≤_}
 use mathlib.Core.Path.{_≡_}
 use mathlib.Core.Bool.{Bool, true, false, _&&_, _||_, cond}
@@ -42,7 +43,7 @@ above (suc k) d v w = isElement d w && (eqb (d .parent w) v || above k d v (d .p
 unfoldable pub below : View → Relation
 below d v w = above (d .size) d v w
 
--- the text test holds of an element whose number is c, 0 included, and never of node 0
+-- v is an element with the text number c, which may be 0; node 0 never passes
 unfoldable pub textTest : View → ℕ → ℕ → Bool
 textTest d c v = isElement d v && eqb (d .text v) c
 
@@ -63,7 +64,7 @@ view es = record {
   text = λ v. node es v .text;
 }
 
--- the parent of element 1 is 0; for i above 1 it is i-1 or an ancestor of i-1, never 0
+-- element 1 stands under node 0, and no other does; a later one under the element before it or an ancestor of that
 unfoldable pub parentRule : View → ℕ → Bool
 parentRule d i =
     cond (eqb i 1) (eqb (d .parent i) 0)

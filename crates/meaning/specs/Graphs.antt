@@ -16,7 +16,7 @@ pub record LegalGraph (g : Graph) : Type 0 where
   pub masks : length (g .children) ≡ types
   pub edges : (A B : ℕ) → bit (getD (g .children) A 0) B ≡ true → (A < g .k) × (B < g .k)
 
--- B is a child kind of A; the only child kind of 16 is the root type
+-- B may stand under A; under the document node that is the root type alone
 unfoldable pub childKind : Graph → Relation
 childKind g A B = cond (eqb A document) (eqb B (g .root)) (bit (getD (g .children) A 0) B)
 

@@ -1,4 +1,4 @@
--- Document 01 in its own order, but for what is about a file's bytes.
+-- The rules of docs/RULES.md as definitions, but for what is about a file's bytes.
 pub mod Limits
 pub mod Sets
 pub mod Lists
@@ -10,4 +10,4 @@ pub mod Operations
 pub mod Announcements
 pub mod Translation
 pub mod Refused
-pub mod Records
+pub mod inside

@@ -1,4 +1,4 @@
--- The numbers of document 01, in one place. Where one may change, definitions and laws take it as a parameter.
+-- The numbers of docs/RULES.md, in one place. Where one may change, definitions and laws take it as a parameter.
 use Prim.Native.Nat.{ℕ, _*_}
 use Rattle.meaning.specs.declared.Sizes.{Sizes}
 

@@ -54,6 +54,6 @@ results f rs (o ∷ os) = results f (rs ++ (f rs o ∷ [])) os
 unfoldable pub run : View → List Operation → List Relation
 run d os = results (rows d) [] os
 
--- each w with (0, w) in the last step, ascending, each once
+-- the nodes that the last step relates node 0 to, ascending, none twice
 unfoldable pub answer : View → List Operation → List ℕ
 answer d os = listed (d .size) (λ w. at (run d os) (last os) 0 w)

@@ -9,7 +9,7 @@ use Rattle.meaning.specs.Relations.{Relation}
 use Rattle.meaning.specs.Documents.{View, some, isParent, below, textTest}
 
 mutual
-  -- 01 self; 02 t; 03 any child; 04 p/p; 05 p//p; 06 union; 07 p[q]
+  -- by their codes: 0x01 self, 0x02 a type, 0x03 any child, 0x04 p/q, 0x05 p//q, 0x06 union, 0x07 p[q]
   pub data XPath : Type 0 where
     self : XPath
     child : ℕ → XPath
@@ -19,7 +19,7 @@ mutual
     union : XPath → XPath → XPath
     filter : XPath → Qualifier → XPath
 
-  -- 11 some node is reached; 12 own text number equals; 13 not; 14 and; 15 or
+  -- by their codes: 0x11 some node is reached, 0x12 the node's own text number, 0x13 not, 0x14 and, 0x15 or
   pub data Qualifier : Type 0 where
     reached : XPath → Qualifier
     textIs : ℕ → Qualifier

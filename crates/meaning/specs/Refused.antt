@@ -4,23 +4,23 @@ use Rattle.meaning.specs.declared.Reason.{Reason}
 use Rattle.meaning.specs.declared.Reason.the-variants.{Ended, Mark, Version, Bound, Code, Kind, Edge, Number, Operand, Extra, Steps, Room}
 
 abbrev pub numberOf : Reason → ℕ
--- the bytes end inside a field, or before the file is complete
+-- the file stops short: in a field, or where more has to follow
 numberOf Ended = 1
 numberOf Mark = 2
 numberOf Version = 3
--- a bound is passed; k, the step count or EDG's total of rows is 0; k of EDG differs from the graph's
+-- too many of something; no type, no step or no row at all; or tables whose k is not the graph's
 numberOf Bound = 4
--- unknown code, or a code not allowed at that place
+-- a code that there is not, or that may not stand here
 numberOf Code = 5
--- a type or root of k or more, or a mask bit of k or more
+-- a type that the graph does not have, as a number or as a mask's bit
 numberOf Kind = 6
--- root type wrong, edge not in the graph, or a first token that closes
+-- a child that may not stand under its parent, another first type than the root type, or a close before any open
 numberOf Edge = 7
--- a wrong number or parent in EDG
+-- a row's number or its parent's is wrong
 numberOf Number = 8
--- an operand not below its own step
+-- an operand that is no earlier step
 numberOf Operand = 9
--- bytes after the end, or an unused x or y not 0
+-- bytes behind the end, or a byte of a step that has no use and is not 0
 numberOf Extra = 10
 -- more steps needed than are allowed
 numberOf Steps = 11

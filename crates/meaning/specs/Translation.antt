@@ -79,6 +79,6 @@ unfoldable mutual
 unfoldable pub translated : Graph → XPath → List Operation
 translated g p = path g (mask kinds (λ A. eqb A document)) p []
 
--- the query's nodes, plus five for each // and one for each not
+-- a step for each node of the query, five more per // and one more per not
 unfoldable pub stepCount : XPath → ℕ
 stepCount p = pathCount 5 1 p

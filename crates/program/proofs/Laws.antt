@@ -20,13 +20,14 @@ use Rattle.meaning.specs.Limits.{words}
 use Rattle.fields.specs.declared.Cursor.{Cursor}
 use Rattle.fields.specs.declared.Field.{Field}
 use Rattle.fields.specs.declared.Field.the-variants.{Got, Refused}
-use Rattle.fields.specs.Read.{Read, got, readOf, beside, byte, byteBelow, byteUpTo}
+use Rattle.fields.specs.inside.Outcomes.{readOf, beside}
+use Rattle.fields.specs.Read.{Read, got, byte, byteBelow, byteUpTo}
 use Rattle.fields.proofs.Laws.{taken, handed}
 use Rattle.rel.specs.declared.Layout.{Layout}
 use Rattle.rel.specs.declared.Layout.the-variants.{Zeros, Single, Pair, Number, Mask}
 use Rattle.rel.specs.Rel.{layouts, layoutOf, readX, readY, operationOf, stepRead}
 use Rattle.rel.proofs.File.{judged-out, range-out}
-use Rattle.program.specs.Answers.{room, Coded}
+use Rattle.program.specs.inside.ProgramRead.{xLimit, FitsLayout}
 
 -- what is read for the layout that it is
 module _ (n : ℕ) (s : List ℕ) (at : ℕ) {l l′ : Layout} {e : Read ℕ} (h : l ≡ l′) where
@@ -42,14 +43,14 @@ past : {n code : ℕ} → n ≤ code → (code ≡ n → ⊥) → n < code
 past l other = omega arith
 
 -- The operation that is made of x and y: the low byte of an operand is all of it.
-module _ {code x y : ℕ} (h : Coded code x y) where
+module _ {code x y : ℕ} (h : FitsLayout code x y) where
   module _ {o : Operation} {n : ℕ} (e : code ≡ n) where
     pub made-of-word : o ≡ operationOf n x y → o ≡ operationOf code x y
     made-of-word i = rw e i
 
-    pub made-of-operands : {a b : ℕ} → a ≡ x % 256 → b ≡ y % 256 → room (layoutOf n) ≡ 256 → o ≡ operationOf n a b → o ≡ operationOf code x y
+    pub made-of-operands : {a b : ℕ} → a ≡ x % 256 → b ≡ y % 256 → xLimit (layoutOf n) ≡ 256 → o ≡ operationOf n a b → o ≡ operationOf code x y
     made-of-operands {a} {b} p q r i =
-        let all : a ≡ x = omega (arith, h .x-room, ap (λ (c : ℕ). room (layoutOf c)) e, r) in
+        let all : a ≡ x = omega (arith, h .x-room, ap (λ (c : ℕ). xLimit (layoutOf c)) e, r) in
         let low : b ≡ y = omega arith in
         i ∙ simp (all, low, e)
 
@@ -78,7 +79,7 @@ module _ (limit : ℕ) (r : Reason) (s : List ℕ) (at : ℕ) where
 
 -- x and y are as the layout may have them
 module _ (k s : ℕ) (b : List ℕ) (at at′ : ℕ) {x y n m : ℕ} (few : s ≤ 256) (w : x < words) where
-  has-room : (l : Layout) → readX k s l b at ≡ got x n → readY s l b at′ ≡ got y m → (x < room l) × (y < 256)
+  has-room : (l : Layout) → readX k s l b at ≡ got x n → readY s l b at′ ≡ got y m → (x < xLimit l) × (y < 256)
   has-room Zeros h i = (small 1 Extra b at (omega arith) h, small 1 Extra b at′ (omega arith) i)
   has-room Single h i = (small s Operand b at few h, small 1 Extra b at′ (omega arith) i)
   has-room Pair h i = (small s Operand b at few h, small s Operand b at′ few i)
@@ -106,7 +107,7 @@ module _ (k n : ℕ) (s : List ℕ) (at : ℕ) {f : Field} (p : readOf f ≡ byt
         unfolding stepRead
         step-read e = simp (taken p q, ← i, taken h j, taken t u, e)
 
-        pub step-coded : Fits w8 n → Fits w16 x → Coded code x y
+        pub step-coded : Fits w8 n → Fits w16 x → FitsLayout code x y
         step-coded m w =
             let fit = has-room k n s (c .at) (d .at) (omega arith) (w .fits) l (taken h j) (taken t u) in
             record { first = at-least (length layouts) Code s at p q; last = at-most (length layouts) Code s at p q; x-room = rw (← i) (fit .0); y-room = fit .1 }

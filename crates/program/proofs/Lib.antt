@@ -1,3 +1,3 @@
 pub mod Laws
 pub mod Whole
-pub mod Held
+pub mod Known

@@ -15,17 +15,17 @@ use Rattle.meaning.specs.declared.Program.{Program}
 use Rattle.meaning.specs.declared.Reason.the-variants.{Bound}
 use Rattle.meaning.specs.declared.Refusal.{Refusal}
 use Rattle.meaning.specs.Limits.{stepLimit}
-use Rattle.meaning.specs.Records.{blankStep, stepsFrom, programOf}
-use Rattle.meaning.proofs.Records.{steps-length}
+use Rattle.meaning.specs.inside.Records.{blankStep, stepsFrom, programOf}
+use Rattle.meaning.proofs.Records.{steps-length, program-numbered}
 use Rattle.fields.specs.declared.Cursor.{Cursor}
 use Rattle.fields.specs.declared.Field.{Field}
 use Rattle.fields.specs.declared.Field.the-variants.{Got, Refused}
-use Rattle.fields.specs.Outcomes.{outcomeOf}
-use Rattle.fields.specs.Read.{Read, Reader, got, refused, bind, _>>=_, _>>_, give, readOf, passed, beside, byteUpTo, header, end, ended}
+use Rattle.fields.specs.inside.Outcomes.{outcomeOf, valueOr, readOf, passed, beside}
+use Rattle.fields.specs.Read.{Read, Reader, got, refused, bind, _>>=_, _>>_, give, byteUpTo, header, end, ended}
 use Rattle.fields.proofs.Laws.{taken, handed, taken-passed, handed-passed, beside-got, beside-refused}
 use Rattle.rel.specs.Rel.{stepRead, stepsRead, program, programFile}
 use Rattle.program.specs.declared.ProgramRead.{ProgramRead}
-use Rattle.program.specs.Answers.{refusedBy, programRead}
+use Rattle.program.specs.inside.ProgramRead.{refusedBy, programRead, ReadsProgram}
 use Rattle.program.proofs.Laws.{at-most}
 
 abbrev pub empty : Program
@@ -121,20 +121,24 @@ module _ (s : List ℕ) (k count from : ℕ) where
       unfolding stepsRead
       upto-all q = simp (left 0 (omega arith), taken-passed (end s at) h q, append-nil, u .held)
 
+-- a reading is answered with its steps numbered
+numbered : {r : ProgramRead} (e : Read (List Operation)) → r ≡ programRead e → ReadsProgram r e
+numbered e is = record { is = is; numbered = rw is (program-numbered (valueOr [] e)) }
+
 -- The header and the count stand before the steps.
 module _ (k start : ℕ) (s : List ℕ) {f : Field} {r : ProgramRead} (z : start ≡ 0) (p : readOf f ≡ header 0x52 0x45 0x4C 1 s start) where
-  pub no-header : {e : Refusal} → f ≡ Refused e → r ≡ refusedBy f → r ≡ programRead (programFile k s 0)
+  pub no-header : {e : Refusal} → f ≡ Refused e → r ≡ refusedBy f → ReadsProgram r (programFile k s 0)
   unfolding programFile program
-  no-header q h = h ∙ simp (q, handed (rw z at p) q)
+  no-header q h = numbered (programFile k s 0) (h ∙ simp (q, handed (rw z at p) q))
 
   module _ {v : ℕ} {c : Cursor} {g : Field} (q : f ≡ Got v c) (i : readOf g ≡ byteUpTo stepLimit Bound s (c .at)) where
-    pub no-count : {e : Refusal} → g ≡ Refused e → r ≡ refusedBy g → r ≡ programRead (programFile k s 0)
+    pub no-count : {e : Refusal} → g ≡ Refused e → r ≡ refusedBy g → ReadsProgram r (programFile k s 0)
     unfolding programFile program
-    no-count j h = h ∙ simp (j, taken (rw z at p) q, handed i j)
+    no-count j h = numbered (programFile k s 0) (h ∙ simp (j, taken (rw z at p) q, handed i j))
 
-    pub all-read : {n : ℕ} {d : Cursor} → g ≡ Got n d → r ≡ programRead (ended (stepsRead k 0 n) s (d .at)) → r ≡ programRead (programFile k s 0)
+    pub all-read : {n : ℕ} {d : Cursor} → g ≡ Got n d → r ≡ programRead (ended (stepsRead k 0 n) s (d .at)) → ReadsProgram r (programFile k s 0)
     unfolding programFile program
-    all-read j h = h ∙ simp (taken (rw z at p) q, taken i j)
+    all-read j h = numbered (programFile k s 0) (h ∙ simp (taken (rw z at p) q, taken i j))
 
 pub ruleset loop-laws = (no-steps, upto-start, upto-stop, upto-step, upto-end, upto-all, needs)
 

@@ -1,9 +1,10 @@
 // The program file's reader. A step's fields are read as the table of layouts says.
 ghost use mathlib.Core.Path.{_≡_};
 ghost use Prim.Native.Nat.{_≤_};
-ghost use Rattle.fields.specs.Read.{readOf, beside, ended};
+ghost use Rattle.fields.specs.inside.Outcomes.{readOf, beside};
+ghost use Rattle.fields.specs.Read.{ended};
 ghost use Rattle.rel.specs.Rel.{readX, readY, operationOf, stepRead, stepsRead, programFile};
-ghost use Rattle.program.specs.Answers.{Coded, refusedBy, programRead};
+ghost use Rattle.program.specs.inside.ProgramRead.{FitsLayout, refusedBy, programRead, ReadsProgram};
 use fields::Cursor;
 use fields::Field;
 use meaning::Operation;
@@ -61,7 +62,7 @@ fn read_y(s: &[u8], c: Cursor, layout: Layout, number: u8) -> Field
 
 // The operation of a code, with x and y. An operand is a byte, so its low byte is all of it.
 fn operation(code: u16, x: u16, y: u16) -> Operation
-    requires { ⌜ Coded code x y ⌝ }
+    requires { ⌜ FitsLayout code x y ⌝ }
     ensures { λ r. ⌜ r ≡ operationOf code x y ⌝ }
 {
     let a = low(x);
@@ -150,8 +151,9 @@ fn steps(s: &[u8], first: Cursor, k: u8, count: usize) -> ProgramRead
     }
 }
 
+// The program of a file: its operations, each beside its step's place as its number.
 pub fn read(s: &[u8], k: u8) -> ProgramRead
-    ensures { λ r. ⌜ r ≡ programRead (programFile k (now (s .entry)) 0) ⌝ }
+    ensures { λ r. ⌜ ReadsProgram r (programFile k (now (s .entry)) 0) ⌝ }
 {
     let headed = Cursor::start().header(s, b'R', b'E', b'L', 1);
     let Field::Got(_, after) = headed else {

@@ -14,11 +14,12 @@ use Rattle.meaning.specs.Queries.{XPath}
 use Rattle.fields.specs.declared.Cursor.{Cursor}
 use Rattle.fields.specs.declared.Field.{Field}
 use Rattle.fields.specs.declared.Field.the-variants.{Got, Refused}
-use Rattle.fields.specs.Read.{Read, Reader, got, refused, bind, refusalOf, readOf, passed, byte, header, end}
+use Rattle.fields.specs.inside.Outcomes.{readOf, passed}
+use Rattle.fields.specs.Read.{Read, Reader, got, refused, bind, refusalOf, byte, header, end}
 use Rattle.fields.proofs.Laws.{taken, handed}
 use Rattle.fields.proofs.Formats.{refused-out, got-same}
 use Rattle.query.specs.Qry.{Sort, path, qualifier, Tree, Follows, leaf, field, one, two, unknown, codes, following, nodeCode, part, queryFile}
-use Rattle.query.specs.Answers.{leftOf, PartRead, Then, goes-on, ends, leaving, queryRead}
+use Rattle.query.specs.inside.PartsRead.{leftOf, PartRead, Then, goes-on, ends, leaving, queryRead}
 use Rattle.query.proofs.Parts.{Counted, counted, ended, part-counted, query-counted}
 
 -- What a reading was of which only the nodes left are known.

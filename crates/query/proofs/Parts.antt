@@ -18,9 +18,9 @@ use Rattle.fields.proofs.Formats.{Accepts, Takes, accepts-bind, takes-bind, acc
 use Rattle.query.specs.Qry.{Sort, path, qualifier, Tree, PartReader, Follows, leaf, field, one, two, unknown, codes, following, nodeCode, here, part, queryFile, pathBytes, qualifierBytes}
 
 -- how many nodes a part has, its bytes, and which are legal
-abbrev pub count : (σ : Sort) → Tree σ → ℕ
-count path p = pathCount 0 0 p
-count qualifier q = qualifierCount 0 0 q
+abbrev pub nodeCount : (σ : Sort) → Tree σ → ℕ
+nodeCount path p = pathCount 0 0 p
+nodeCount qualifier q = qualifierCount 0 0 q
 
 abbrev pub bytes : (σ : Sort) → Tree σ → List ℕ
 bytes path p = pathBytes p
@@ -33,7 +33,7 @@ Legal k qualifier q = LegalQualifier k q
 -- what was read has the nodes that are not left of n, one at least
 pub data Counted (σ : Sort) (n : ℕ) : Read (Tree σ × ℕ) → Type 0 where
   ended : {r : Refusal} → Counted σ n (refused r)
-  counted : {p : Tree σ × ℕ} {at : ℕ} → (p .1 < n) × (p .1 + count σ (p .0) ≡ n) → Counted σ n (got p at)
+  counted : {p : Tree σ × ℕ} {at : ℕ} → (p .1 < n) × (p .1 + nodeCount σ (p .0) ≡ n) → Counted σ n (got p at)
 
 -- m reads parts whose first bytes were read before: the code of each node that was taken
 pub record Right (k : ℕ) (σ : Sort) (before : List ℕ) (m : PartReader σ) : Type 0 where
@@ -42,7 +42,7 @@ pub record Right (k : ℕ) (σ : Sort) (before : List ℕ) (m : PartReader σ) :
 
 module _ {σ : Sort} {n : ℕ} where
   after-part : {τ : Sort} {m : ℕ} {e : Read (Tree τ × ℕ)} (g : Tree τ × ℕ → ℕ → Read (Tree σ × ℕ))
-      → Counted τ m e → ((p : Tree τ × ℕ) (at : ℕ) → (p .1 < m) × (p .1 + count τ (p .0) ≡ m) → Counted σ n (g p at)) → Counted σ n (bind e g)
+      → Counted τ m e → ((p : Tree τ × ℕ) (at : ℕ) → (p .1 < m) × (p .1 + nodeCount τ (p .0) ≡ m) → Counted σ n (g p at)) → Counted σ n (bind e g)
   after-part g ended f = ended
   after-part g (counted h) f = f _ _ h
 
@@ -52,14 +52,14 @@ module _ {σ : Sort} {n : ℕ} where
 
 -- a line of the table of codes: what is made has one node more than its parts, the code before their bytes, and is legal where they are
 pub data Row (k : ℕ) (σ : Sort) (c : ℕ) : Follows σ → Type 0 where
-  leaf-row : {t : Tree σ} → count σ t ≡ 1 → byteOf c ≡ bytes σ t → Legal k σ t → Row k σ c (leaf t)
+  leaf-row : {t : Tree σ} → nodeCount σ t ≡ 1 → byteOf c ≡ bytes σ t → Legal k σ t → Row k σ c (leaf t)
   field-row : {m : Reader ℕ} {f : ℕ → Tree σ}
-      → ((v : ℕ) → count σ (f v) ≡ 1) → Accepts m (λ v b. (byteOf c ++ b ≡ bytes σ (f v)) × Legal k σ (f v)) → Row k σ c (field m f)
+      → ((v : ℕ) → nodeCount σ (f v) ≡ 1) → Accepts m (λ v b. (byteOf c ++ b ≡ bytes σ (f v)) × Legal k σ (f v)) → Row k σ c (field m f)
   one-row : {τ : Sort} {f : Tree τ → Tree σ}
-      → ((a : Tree τ) → (count σ (f a) ≡ 1 + count τ a) × (byteOf c ++ bytes τ a ≡ bytes σ (f a)) × (Legal k τ a → Legal k σ (f a))) → Row k σ c (one τ f)
+      → ((a : Tree τ) → (nodeCount σ (f a) ≡ 1 + nodeCount τ a) × (byteOf c ++ bytes τ a ≡ bytes σ (f a)) × (Legal k τ a → Legal k σ (f a))) → Row k σ c (one τ f)
   two-row : {τ υ : Sort} {f : Tree τ → Tree υ → Tree σ}
       → ((a : Tree τ) (b : Tree υ)
-      → (count σ (f a b) ≡ 1 + count τ a + count υ b) × (byteOf c ++ bytes τ a ++ bytes υ b ≡ bytes σ (f a b)) × (Legal k τ a → Legal k υ b → Legal k σ (f a b)))
+      → (nodeCount σ (f a b) ≡ 1 + nodeCount τ a + nodeCount υ b) × (byteOf c ++ bytes τ a ++ bytes υ b ≡ bytes σ (f a b)) × (Legal k τ a → Legal k υ b → Legal k σ (f a b)))
       → Row k σ c (two τ υ f)
   no-row : Row k σ c unknown
 
@@ -70,9 +70,9 @@ row {k} {σ} {c} w {r} {t} R T = go (eqb c w) refl
     go true e = rw (eqb-true c w e) R
     go false e = T
 
-pub rows : (k : ℕ) (σ : Sort) (c : ℕ) → Row k σ c (codes k σ c)
+pub code-rows : (k : ℕ) (σ : Sort) (c : ℕ) → Row k σ c (codes k σ c)
 unfolding pathCount qualifierCount pathBytes qualifierBytes LegalPath LegalQualifier
-rows k path c =
+code-rows k path c =
     row 0x01 (leaf-row refl refl tt)
     (row 0x02 (field-row (λ v. refl) (takes-weaken (takes-judged _ Kind takes-byte) λ t l. (refl, ltb-true t k (l .1))))
     (row 0x03 (leaf-row refl refl tt)
@@ -81,7 +81,7 @@ rows k path c =
     (row 0x06 (two-row λ a b. (refl, refl, λ h i. (h, i)))
     (row 0x07 (two-row λ a b. (refl, refl, λ h i. (h, i)))
     no-row))))))
-rows k qualifier c =
+code-rows k qualifier c =
     row 0x11 (one-row λ a. (refl, refl, λ h. h))
     (row 0x12 (field-row (λ v. refl) (takes-weaken takes-word λ t l. (refl, l)))
     (row 0x13 (one-row λ a. (refl, refl, λ h. h))
@@ -130,7 +130,7 @@ node-right m R = record {
 pub part-right : (k f : ℕ) (σ : Sort) → Right k σ [] (part k f σ)
 unfolding part
 part-right k zero σ = record { counts = λ n s at. ended; accepts = λ n. accepts-refuse Bound }
-part-right k (suc f) σ = node-right _ λ place c. following-right (part-right k f) place (rows k σ c)
+part-right k (suc f) σ = node-right _ λ place c. following-right (part-right k f) place (code-rows k σ c)
 
 pub part-counted : (k f : ℕ) (σ : Sort) (n : ℕ) (s : List ℕ) (at : ℕ) → Counted σ n (part k f σ n s at)
 part-counted k f σ n s at = rw add-zero at (part-right k f σ .counts n s at)

@@ -1,9 +1,9 @@
 // The QRY reader. Paths and qualifiers may hold each other, so their readers call each other. A query is not kept:
 // each reader answers how many nodes it leaves of those still allowed, and where reading goes on.
 ghost use mathlib.Core.Path.{_≡_};
-ghost use Rattle.fields.specs.Read.{readOf};
+ghost use Rattle.fields.specs.inside.Outcomes.{readOf};
 ghost use Rattle.query.specs.Qry.{path, qualifier, nodeCode, queryFile};
-ghost use Rattle.query.specs.Answers.{leftOf, PartRead, Then, leaving, queryRead};
+ghost use Rattle.query.specs.inside.PartsRead.{leftOf, PartRead, Then, leaving, queryRead};
 use fields::Cursor;
 use fields::Field;
 use meaning::Outcome;

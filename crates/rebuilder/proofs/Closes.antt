@@ -12,7 +12,11 @@ use Rattle.meaning.specs.Documents.{documentNode, node, Accepted}
 use Rattle.fields.specs.Write.{byteOf}
 use Rattle.tre.specs.Tre.{closes, openOf, tokensOf, documentBytes}
 use Rattle.tre.proofs.Climbs.{Up, here, up, closes-none, closes-one, up-parent, up-least, parent-less, rule-up, root-up}
-use Rattle.rebuilder.specs.Rebuild.{documentLength, closesAfter}
+use Rattle.rebuilder.specs.inside.TokensFit.{closesAfter}
+
+-- the bytes of the document of n elements
+abbrev pub documentLength : ℕ → ℕ
+documentLength n = 5 + 5 * n
 
 -- how many elements are passed on the way up
 passed : {es : List Element} {a b : ℕ} → Up es a b → ℕ

@@ -2,4 +2,4 @@
 pub mod Closes
 pub mod Closing
 pub mod Tokens
-pub mod Answers
+pub mod Whole

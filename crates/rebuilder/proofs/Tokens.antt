@@ -9,20 +9,20 @@ use lib.ListN.{length}
 use borrow.Author.Needs.{needs}
 use Rattle.meaning.specs.declared.Element.{Element}
 use Rattle.meaning.specs.Documents.{node}
-use Rattle.elements.specs.Kept.{keptIn}
-use Rattle.elements.proofs.Kept.{held-room}
+use Rattle.elements.specs.inside.Packing.{keptIn}
+use Rattle.elements.proofs.Packing.{held-room}
 use Rattle.tre.specs.Tre.{openOf, tokensOf}
-use Rattle.writing.specs.Put.{Put}
+use Rattle.writing.specs.inside.Put.{Put}
 use Rattle.writing.proofs.Puts.{put-bytes-word}
 use Rattle.writing.proofs.Toward.{Toward, toward-none, toward-room, toward-more, toward-last}
-use Rattle.rebuilder.specs.Rebuild.{closesAfter, tokensIn, Writable}
+use Rattle.rebuilder.specs.inside.TokensFit.{closesAfter, tokensIn, TokensFit}
 use Rattle.rebuilder.proofs.Closes.{past-last}
 
 -- the tokens behind element n
 abbrev pub tokensAfter : List Element → ℕ → List ℕ
 tokensAfter es n = tokensOf es n (length es - n)
 
-module _ {kept : List ℕ} {count at : ℕ} {old : List ℕ} (start : Writable kept count (tokensIn (keptIn kept count)) at old) where
+module _ {kept : List ℕ} {count at : ℕ} {old : List ℕ} (start : TokensFit kept count (tokensIn (keptIn kept count)) at old) where
   abbrev es : List Element
   es = keptIn kept count
 
@@ -33,7 +33,7 @@ module _ {kept : List ℕ} {count at : ℕ} {old : List ℕ} (start : Writable k
       unfolding tokensOf
       tokens-next f = let left : length es - n ≡ suc (length es - suc n) = omega (arith, start .held .long) in rw (left, f, add-one n)
 
-      pub closes-fit : Writable kept count (closesAfter es n) next new
+      pub closes-fit : TokensFit kept count (closesAfter es n) next new
       closes-fit = record { held = start .held; room = toward-room (closesAfter es n) (openOf (node es (n + 1)) ++ tokensAfter es (n + 1)) so-far (tokens-next refl) }
 
       module _ {e : Element} {begin : ℕ} {mid : List ℕ} (f : e ≡ node es (n + 1)) (closed : Put next (closesAfter es n) new mid begin) where
@@ -52,7 +52,7 @@ module _ {kept : List ℕ} {count at : ℕ} {old : List ℕ} (start : Writable k
       unfolding tokensOf
       tokens-last = let left : length es - n ≡ 0 = omega (arith, start .held .long) in rw (left, past-last es n (omega (arith, start .held .long)))
 
-      pub last-closes-fit : Writable kept count (closesAfter es n) next new
+      pub last-closes-fit : TokensFit kept count (closesAfter es n) next new
       last-closes-fit = record { held = start .held; room = rw (← tokens-last) (so-far .room) }
 
       pub tokens-all : {newer : List ℕ} {after : ℕ} → Put next (closesAfter es n) new newer after → Put at (tokensIn es) old newer after

@@ -1,2 +1,2 @@
--- What the rebuilder needs and writes.
-pub mod Rebuild
+-- The document of elements, as bytes.
+pub mod inside

@@ -1,11 +1,11 @@
 // The rebuilder: writes the document file of elements that are kept.
 ghost use Prim.Native.Nat.{_+_, _≤_};
 ghost use lib.ListN.{length};
-ghost use Rattle.elements.specs.Kept.{keptIn};
+ghost use Rattle.elements.specs.inside.Packing.{keptIn};
 ghost use Rattle.tre.specs.Tre.{openOf, documentBytes};
 ghost use Rattle.writing.specs.Lent.{Leaves, stored};
-ghost use Rattle.writing.specs.Put.{Put};
-ghost use Rattle.rebuilder.specs.Rebuild.{Held, closesAfter, tokensIn, Writable};
+ghost use Rattle.writing.specs.inside.Put.{Put};
+ghost use Rattle.rebuilder.specs.inside.TokensFit.{Held, closesAfter, tokensIn, TokensFit};
 use meaning::Answer;
 use meaning::Element;
 use meaning::Reason;
@@ -13,7 +13,7 @@ use meaning::Reason;
 // Closes what the element that follows does not stand in: from the last one opened up to the next one's parent, which stays
 // open. After the last element the document node follows, and all are closed.
 fn close_after(kept: &[u32], count: usize, last: u8, out: &mut [u8], at: usize) -> usize
-    requires { ⌜ (last ≤ count) × Writable (now kept) count (closesAfter (keptIn (now kept) count) last) at (now out) ⌝ }
+    requires { ⌜ (last ≤ count) × TokensFit (now kept) count (closesAfter (keptIn (now kept) count) last) at (now out) ⌝ }
     ensures { λ r. ⌜ Put at (closesAfter (keptIn (now (kept .entry)) count) last) (now (out .entry)) (now (out .exit)) r ⌝ }
 {
     let following = elements::node_at(kept, count, last + 1);
@@ -38,7 +38,7 @@ fn open(element: Element, out: &mut [u8], at: usize) -> usize
 
 // Before each element all those are closed that it does not stand in, and the rest at the end.
 fn write_tokens(kept: &[u32], count: usize, out: &mut [u8], at: usize) -> usize
-    requires { ⌜ Writable (now kept) count (tokensIn (keptIn (now kept) count)) at (now out) ⌝ }
+    requires { ⌜ TokensFit (now kept) count (tokensIn (keptIn (now kept) count)) at (now out) ⌝ }
     ensures { λ r. ⌜ Put at (tokensIn (keptIn (now (kept .entry)) count)) (now (out .entry)) (now (out .exit)) r ⌝ }
 {
     let all = numbers::usize_to_u8(count);

@@ -1,4 +1,4 @@
--- REL: step count; steps of three bytes: operation, x, y.
+-- The program file: how many steps there are, and the steps, each the code of an operation and two bytes more, x and y.
 use Prim.Native.Nat.{ℕ, zero, suc, _-_}
 use mathlib.Core.List.{List, [], _∷_, _++_}
 use lib.ListN.{getD, length}
@@ -11,7 +11,7 @@ use Rattle.fields.specs.Write.{byteOf, wordOf, headerOf}
 use Rattle.rel.specs.declared.Layout.{Layout}
 use Rattle.rel.specs.declared.Layout.the-variants.{Zeros, Single, Pair, Number, Mask}
 
--- the layouts of operations 01 to 09
+-- the layouts of the operations, by their codes
 abbrev pub layouts : List Layout
 layouts = Mask ∷ Zeros ∷ Number ∷ Pair ∷ Pair ∷ Single ∷ Single ∷ Pair ∷ Pair ∷ []
 
@@ -41,7 +41,7 @@ readY s Pair = operand s
 readY s Number = give 0
 readY s Mask = give 0
 
--- operations 01 to 09, of x and y
+-- the operations of x and y, by their codes
 abbrev pub operations : ℕ → ℕ → List Operation
 operations x y = Table x ∷ Itself ∷ Text x ∷ Join x y ∷ Union x y ∷ Closure x ∷ Has x ∷ Diff x y ∷ Both x y ∷ []
 

@@ -23,15 +23,15 @@ pub const LAST_CODE: u8 = 9;
 
 // The layouts of the operations, by their codes.
 pub const LAYOUTS: [Layout; LAST_CODE as usize] = [
-    Layout::Mask, // 01 TABLE
-    Layout::Zeros, // 02 SELF
-    Layout::Number, // 03 TEXT
-    Layout::Pair, // 04 JOIN
-    Layout::Pair, // 05 UNION
-    Layout::Single, // 06 LFP
-    Layout::Single, // 07 HAS
-    Layout::Pair, // 08 DIFF
-    Layout::Pair, // 09 AND
+    Layout::Mask, // 0x01 TABLE
+    Layout::Zeros, // 0x02 SELF
+    Layout::Number, // 0x03 TEXT
+    Layout::Pair, // 0x04 JOIN
+    Layout::Pair, // 0x05 UNION
+    Layout::Single, // 0x06 LFP
+    Layout::Single, // 0x07 HAS
+    Layout::Pair, // 0x08 DIFF
+    Layout::Pair, // 0x09 AND
 ];
 
 // The three bytes of a step.

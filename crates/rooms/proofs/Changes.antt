@@ -8,7 +8,7 @@ use lib.Dec.{eqb, ltb}
 use Rattle.meaning.specs.Relations.{Relation}
 use Rattle.meaning.proofs.Tests.{and-implied}
 use Rattle.rows.proofs.Cases.{by-order, by-equal}
-use Rattle.rooms.specs.Rooms.{upTo, columns, changed, added}
+use Rattle.rooms.specs.inside.Rooms.{upTo, columns, changed, added}
 
 -- all of r, where its rows start, or end, below n
 pub upTo-all : (n : ℕ) (r : Relation) → ((v w : ℕ) → r v w ≡ true → v < n) → (v w : ℕ) → upTo n r v w ≡ r v w

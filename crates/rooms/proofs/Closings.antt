@@ -14,10 +14,10 @@ use Rattle.meaning.specs.Sets.{any}
 use Rattle.meaning.specs.Relations.{Relation, closure}
 use Rattle.meaning.proofs.Sets.{any-cong}
 use Rattle.rows.specs.declared.Mix.the-variants.{Either, First}
-use Rattle.rows.specs.Rows.{inRow, Bits, gathered, mixes, rowsAt, Kept, Next, mixture}
+use Rattle.rows.specs.inside.Rows.{inRow, Bits, gathered, mixes, rowsAt, OthersStay, Next, mixedRows}
 use Rattle.rows.proofs.Bytes.{kept-all, kept-inside}
 use Rattle.rows.proofs.Searches.{some-below}
-use Rattle.rooms.specs.Rooms.{upTo, changed, Places, Made, Taken, Grown, Swept, Closable}
+use Rattle.rooms.specs.inside.Rooms.{upTo, changed, Places, RoomMade, TakenIn, Grown, Swept, Closable}
 use Rattle.rooms.proofs.Changes.{changed-here, upTo-all}
 use Rattle.rooms.proofs.Rooms.{room-on, operands-kept, places-kept, row-first, made-as, made-after}
 use Rattle.rooms.proofs.Turns.{room-small, gathered-wide}
@@ -26,8 +26,8 @@ use Rattle.rooms.proofs.Sweeps.{Sweeping, sweeping-none, sweeping-more,
 module _ (width : ℕ) where
   pub row-taken : {xs ys before row after added : List ℕ} {base a v first : ℕ} → Places width (length xs) base a a (rowBits width)
       → Bits before (rowsAt width xs base v) → Bits row (rowsAt width xs a v) → Bits after (gathered (rowBits (small .row)) (rowsAt (small .row) xs base) (inRow row) (inRow before))
-      → Made width xs ys base (changed v (inRow after) (rowsAt width xs base)) → Bits added (λ w. mixes First (inRow after w) (inRow before w))
-      → Next (rowBits (small .row)) (inRow added) 0 first → Taken width xs ys base a v (ltb first (rowBits width))
+      → RoomMade width xs ys base (changed v (inRow after) (rowsAt width xs base)) → Bits added (λ w. mixes First (inRow after w) (inRow before w))
+      → Next (rowBits (small .row)) (inRow added) 0 first → TakenIn width xs ys base a v (ltb first (rowBits width))
   unfolding gathered changed
   row-taken {xs} {ys} {before} {row} {after} {base = base} {a} {v} p b r g k m n =
       let now = gathered-wide width xs base (inRow row) (inRow before) (p .sized) g in
@@ -43,7 +43,7 @@ module _ (width : ℕ) where
     pub places : Places width (length old) base a a size
     pub most : v ≤ size
     pub rows : Sweeping size (rowsAt width old a) (rowsAt width old base) (rowsAt width new base) v grew back
-    pub others : Kept old new base (roomBytes width)
+    pub others : OthersStay old new base (roomBytes width)
 
   pub sweeps-none : {xs : List ℕ} {base a size : ℕ} → Places width (length xs) base a a size → Sweeps xs xs base a size size false false
   sweeps-none {xs} {base} {a} {size} p = record { places = p; most = omega arith; rows = sweeping-none size (rowsAt width xs a) (rowsAt width xs base); others = kept-all }
@@ -53,7 +53,7 @@ module _ (width : ℕ) where
     pub sweeps-places : Places width (length xs) base a a (rowBits width)
     sweeps-places = let p = places-kept width (n .others) (n .places) in record { sized = p .sized; room = p .room; left = p .left; right = p .right; few = omega arith }
 
-    pub sweeps-more : {ys : List ℕ} {t : Bool} {first : ℕ} → 0 < v → Taken width xs ys base a (v - 1) t → Next (rowBits width) (rowsAt width ys a (v - 1)) 0 first
+    pub sweeps-more : {ys : List ℕ} {t : Bool} {first : ℕ} → 0 < v → TakenIn width xs ys base a (v - 1) t → Next (rowBits width) (rowsAt width ys a (v - 1)) 0 first
         → Sweeps old ys base a size (v - 1) (g || t) (k || leb first (v - 1))
     sweeps-more {ys} {first = first} l m e =
         let q : v ≡ v - 1 + 1 = omega arith in
@@ -80,7 +80,7 @@ module _ (width : ℕ) where
     pub some : 1 ≤ k
     pub most : k ≤ size
     pub rows : Closing size (rowsAt width old a) (rowsAt width new base) k
-    pub others : Kept old new base (roomBytes width)
+    pub others : OthersStay old new base (roomBytes width)
 
   module _ {old xs : List ℕ} {base a size k : ℕ} (n : Closes old xs base a size k) where
     pub closes-places : Places width (length xs) base a a size
@@ -93,7 +93,7 @@ module _ (width : ℕ) where
       swept : Grown size (rowsAt width old a) (rowsAt width xs base) (rowsAt width ys base) 0
       swept = rw (← same) (s .rows)
 
-      kept : Kept old ys base (roomBytes width)
+      kept : OthersStay old ys base (roomBytes width)
       kept = kept-inside (omega arith) (omega arith) (n .others) (s .others)
 
       pub closes-more : k < size → Closes old ys base a size (k + 1)
@@ -106,16 +106,16 @@ module _ (width : ℕ) where
       }
 
   -- The operand was copied first; old is the work area from there on.
-  module _ {first old : List ℕ} {base a size : ℕ} (q : Closable width first base a size) (m : Made width first old base (upTo size (mixture Either (rowsAt width first a) (rowsAt width first a)))) where
+  module _ {first old : List ℕ} {base a size : ℕ} (q : Closable width first base a size) (m : RoomMade width first old base (upTo size (mixedRows Either (rowsAt width first a) (rowsAt width first a)))) where
     operand-kept : rowsAt width old a ≡ rowsAt width first a
     operand-kept = operands-kept width (m .others) (q .places) .0
 
     operand-copied : rowsAt width old base ≡ rowsAt width first a
-    unfolding mixture mixes
+    unfolding mixedRows mixes
     operand-copied =
         let r : Relation = rowsAt width first a in
         fun-ext λ v. fun-ext λ w.
-        m .rows v w ∙ upTo-all size (mixture Either r r) (λ v w h. q .on v w (sym (or-self (r v w)) ∙ h) .0) v w ∙ or-self (r v w)
+        m .rows v w ∙ upTo-all size (mixedRows Either r r) (λ v w h. q .on v w (sym (or-self (r v w)) ∙ h) .0) v w ∙ or-self (r v w)
 
     pub closes-one : Closes old old base a size 1
     closes-one = record {
@@ -127,11 +127,11 @@ module _ (width : ℕ) where
     }
 
     module _ {xs : List ℕ} {k : ℕ} (n : Closes old xs base a size k) where
-      pub closes-all : size ≤ k → Made width first xs base (closure size (rowsAt width first a))
+      pub closes-all : size ≤ k → RoomMade width first xs base (closure size (rowsAt width first a))
       closes-all l =
           rw (← operand-kept) (made-after width m record { rows = closing-all size (rowsAt width old a) (n .asked .on) (n .rows) (omega (arith, n .most)); others = n .others })
 
-      pub closes-still : {ys : List ℕ} {g : Bool} → Swept width size xs ys base a g → not g ≡ true → Made width first ys base (closure size (rowsAt width first a))
+      pub closes-still : {ys : List ℕ} {g : Bool} → Swept width size xs ys base a g → not g ≡ true → RoomMade width first ys base (closure size (rowsAt width first a))
       closes-still s e =
           rw (← operand-kept) (made-after width m record {
             rows = closing-closed size (rowsAt width old a) (n .asked .on) (n .rows) (n .some) (swept n s) (rw (← (same n s)) (s .closed (not-true _ e)));

@@ -13,20 +13,21 @@ use Rattle.meaning.specs.declared.Element.{Element}
 use Rattle.meaning.specs.declared.Operation.the-variants.{Table}
 use Rattle.meaning.specs.Limits.{types, rowBits, roomBytes}
 use Rattle.meaning.specs.Sets.{any, bit}
+use Rattle.meaning.specs.inside.Diagonal.{diagonal}
 use Rattle.meaning.specs.Relations.{Relation, nothing}
 use Rattle.meaning.specs.Documents.{View, isElement, isParent, textTest, view, node}
 use Rattle.meaning.specs.Operations.{rows}
 use Rattle.meaning.proofs.Tests.{and-in, and-left}
 use Rattle.meaning.proofs.Views.{element-there, parent-element}
-use Rattle.elements.specs.Kept.{elementIn, keptIn}
-use Rattle.elements.proofs.Kept.{held-long, held-there}
-use Rattle.rows.specs.Rows.{rowsAt, Kept, Next, diagonal}
+use Rattle.elements.specs.inside.Packing.{elementIn, keptIn, shown}
+use Rattle.elements.proofs.Packing.{held-long, held-there}
+use Rattle.rows.specs.inside.Rows.{rowsAt, OthersStay, Next}
 use Rattle.rows.proofs.Cases.{by-equal}
 use Rattle.rows.proofs.Searches.{some-below}
 use Rattle.rooms.specs.declared.room.Test.{Test}
 use Rattle.rooms.specs.declared.room.Test.the-variants.{Always, Text, Related}
-use Rattle.rooms.specs.Rooms.{columns, added, passing, Testable, Made}
-use Rattle.rooms.specs.Ready.{shown, Nodes}
+use Rattle.rooms.specs.inside.Rooms.{columns, added, passing, Testable, RoomMade}
+use Rattle.rooms.specs.inside.FitToRun.{Nodes}
 use Rattle.rooms.proofs.Changes.{columns-none, columns-all}
 use Rattle.rooms.proofs.Rooms.{room-kept, made-as, made-none, made-after, column-more}
 
@@ -91,10 +92,10 @@ pub record Testing (width : ℕ) (old new : List ℕ) (base : ℕ) (kept : List 
   pub room : base + roomBytes width ≤ length old
   pub asked : Testable width base (length kept) count test
   pub most : v ≤ count + 1
-  pub made : Made width old new base (columns v (diagonal (passing width (shown kept count) old test)))
+  pub made : RoomMade width old new base (columns v (diagonal (passing width (shown kept count) old test)))
 
 -- a test comes to the same while the room is made
-passing-kept : (width : ℕ) (d : View) (test : Test) {old xs : List ℕ} {base : ℕ} → Kept old xs base (roomBytes width) → base + roomBytes width ≤ length old
+passing-kept : (width : ℕ) (d : View) (test : Test) {old xs : List ℕ} {base : ℕ} → OthersStay old xs base (roomBytes width) → base + roomBytes width ≤ length old
     → ((a : ℕ) → test ≡ Related a → a + roomBytes width ≤ base) → (v : ℕ) → passing width d xs test v ≡ passing width d old test v
 unfolding passing
 passing-kept width d Always k r b v = refl
@@ -102,7 +103,7 @@ passing-kept width d (Text number) k r b v = refl
 passing-kept width d (Related a) k r b v = ap (λ (x : Relation). any (d .size) (x v)) (room-kept width a k (omega arith) (b a refl))
 
 module _ (width : ℕ) {old xs : List ℕ} {base : ℕ} {kept : List ℕ} {count : ℕ} {test : Test} where
-  pub testing-none : base + roomBytes width ≤ length old → Testable width base (length kept) count test → Made width old xs base nothing → Testing width xs xs base kept count test 0
+  pub testing-none : base + roomBytes width ≤ length old → Testable width base (length kept) count test → RoomMade width old xs base nothing → Testing width xs xs base kept count test 0
   testing-none r t c = record { room = omega (arith, c .others .same); asked = t; most = omega arith; made = made-none width c (columns-none 0 _ λ v w l. absurd (omega arith)) }
 
   module _ {v : ℕ} (n : Testing width old xs base kept count test v) where
@@ -115,7 +116,7 @@ module _ (width : ℕ) {old xs : List ℕ} {base : ℕ} {kept : List ℕ} {count
       held = n .asked .held;
     }
 
-    pub testing-more : {ys : List ℕ} {there : Bool} → v ≤ count → there ≡ passing width (shown kept count) xs test v → Made width xs ys base (added v v there (rowsAt width xs base))
+    pub testing-more : {ys : List ℕ} {there : Bool} → v ≤ count → there ≡ passing width (shown kept count) xs test v → RoomMade width xs ys base (added v v there (rowsAt width xs base))
         → Testing width old ys base kept count test (v + 1)
     unfolding diagonal
     testing-more {there = there} l e k = record {
@@ -127,8 +128,8 @@ module _ (width : ℕ) {old xs : List ℕ} {base : ℕ} {kept : List ℕ} {count
           (λ h. ap₂ _&&_ (ne-eqb u v h) refl ∙ sym (ap (λ (b : Bool). there && b) (ne-eqb v u (λ q. h (sym q))) ∙ and-false there));
     }
 
-    pub testing-all : {first : List ℕ} → count < v → base + roomBytes width ≤ length first → Made width first old base nothing
-        → Made width first xs base (columns (count + 1) (diagonal (passing width (shown kept count) first test)))
+    pub testing-all : {first : List ℕ} → count < v → base + roomBytes width ≤ length first → RoomMade width first old base nothing
+        → RoomMade width first xs base (columns (count + 1) (diagonal (passing width (shown kept count) first test)))
     unfolding columns diagonal
     testing-all l r c =
         let e : v ≡ count + 1 = omega (arith, n .most) in
@@ -144,10 +145,10 @@ pub record Tabling (width : ℕ) (old new : List ℕ) (base : ℕ) (kept : List 
   pub nodes : Nodes kept count
   pub some : 1 ≤ w
   pub most : w ≤ count + 1
-  pub made : Made width old new base (columns w (rows (shown kept count) [] (Table mask)))
+  pub made : RoomMade width old new base (columns w (rows (shown kept count) [] (Table mask)))
 
 module _ (width : ℕ) {old xs : List ℕ} {base : ℕ} {kept : List ℕ} {count mask : ℕ} where
-  pub tabling-none : base + roomBytes width ≤ length old → count < rowBits width → Nodes kept count → Made width old xs base nothing → Tabling width xs xs base kept count mask 1
+  pub tabling-none : base + roomBytes width ≤ length old → count < rowBits width → Nodes kept count → RoomMade width old xs base nothing → Tabling width xs xs base kept count mask 1
   unfolding rows isParent
   tabling-none r f n c = record {
     room = omega (arith, c .others .same);
@@ -176,7 +177,7 @@ module _ (width : ℕ) {old xs : List ℕ} {base : ℕ} {kept : List ℕ} {count
       unfolding view
       child-parent h = omega (arith, n .few, ap (λ (x : Element). x .parent) same, there-node kept count (n .nodes .room) _ (n .nodes .parents w element))
 
-      pub tabling-more : {ys : List ℕ} {p : ℕ} {there : Bool} → p ≡ e .parent → there ≡ bit mask (e .kind) → Made width xs ys base (added p w there (rowsAt width xs base))
+      pub tabling-more : {ys : List ℕ} {p : ℕ} {there : Bool} → p ≡ e .parent → there ≡ bit mask (e .kind) → RoomMade width xs ys base (added p w there (rowsAt width xs base))
           → Tabling width old ys base kept count mask (w + 1)
       unfolding rows isParent view
       tabling-more {p = p} {there} h t k = record {
@@ -189,7 +190,7 @@ module _ (width : ℕ) {old xs : List ℕ} {base : ℕ} {kept : List ℕ} {count
             rw (h, t) (ap₂ (λ (b : Bool) (x : Element). (b && eqb (x .parent) v) && bit mask (x .kind)) element same ∙ and-comm (eqb (e .parent) v) (bit mask (e .kind)));
       }
 
-    pub tabling-all : {first : List ℕ} → count < w → Made width first old base nothing → Made width first xs base (rows (shown kept count) [] (Table mask))
+    pub tabling-all : {first : List ℕ} → count < w → RoomMade width first old base nothing → RoomMade width first xs base (rows (shown kept count) [] (Table mask))
     unfolding rows
     tabling-all l c =
         made-as width refl (made-after width c (n .made)) (columns-all w _ λ v x h.

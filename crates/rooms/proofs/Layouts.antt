@@ -18,7 +18,7 @@ use Rattle.meaning.proofs.Lists.{table-length, table-at}
 use Rattle.writing.specs.Lent.{over}
 use Rattle.writing.proofs.Puts.{over-front, over-length}
 use Rattle.rooms.specs.Layout.{roomByte, workByte, joined, overwritten}
-use Rattle.rows.specs.Rows.{rowsAt}
+use Rattle.rows.specs.inside.Rows.{rowsAt}
 use Rattle.rows.proofs.Bits.{is-mask}
 use Rattle.rows.proofs.Rows.{row-order}
 use Rattle.rooms.proofs.Rooms.{room-bit}

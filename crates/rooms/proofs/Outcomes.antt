@@ -17,15 +17,16 @@ use Rattle.meaning.specs.Sets.{bit, listed}
 use Rattle.meaning.specs.Relations.{at}
 use Rattle.meaning.specs.Documents.{View}
 use Rattle.meaning.specs.Operations.{run, last, answer}
-use Rattle.meaning.specs.Records.{operationsIn}
+use Rattle.meaning.specs.inside.Records.{operationsIn}
 use Rattle.meaning.proofs.Tests.{fails}
 use Rattle.meaning.proofs.Sets.{listed-cong}
 use Rattle.writing.specs.Lent.{accepted, turnedAway, over}
-use Rattle.rows.specs.Rows.{inRow, Bits, rowsAt}
+use Rattle.rows.specs.inside.Rows.{inRow, Bits, rowsAt}
 use Rattle.rows.proofs.Cases.{by-order}
 use Rattle.rows.proofs.Searches.{listed-still}
 use Rattle.rooms.specs.Layout.{workByte, overwritten}
-use Rattle.rooms.specs.Ready.{shown, Ready}
+use Rattle.elements.specs.inside.Packing.{shown}
+use Rattle.rooms.specs.inside.FitToRun.{FitToRun}
 use Rattle.rooms.specs.Run.{leaves, performed, Gives}
 use Rattle.rooms.proofs.Elements.{size-is}
 use Rattle.rooms.proofs.Layouts.{joined-is}
@@ -42,7 +43,7 @@ module _ (room : ℕ) (bytes : List ℕ) (d : View) (os : List Operation) (out w
       → Gives (leaves room bytes d os out work) (accepted (length bytes)) (over 0 bytes out) (overwritten (workByte (small .row) d os) (roomBytes (small .row) * length os) work)
   leaves-all a b = rw (le-leb room (length out) a, le-leb (roomBytes (small .row) * length os) (length work) b)
 
-module _ (kept : List ℕ) (count : ℕ) (p : Program) (out work : List ℕ) (r : Ready kept count p) where
+module _ (kept : List ℕ) (count : ℕ) (p : Program) (out work : List ℕ) (r : FitToRun kept count p) where
   abbrev d : View
   d = shown kept count
 

@@ -20,19 +20,20 @@ use Rattle.meaning.specs.Lists.{table}
 use Rattle.meaning.specs.Relations.{Relation, at}
 use Rattle.meaning.specs.Documents.{View}
 use Rattle.meaning.specs.Operations.{rows, results, run}
-use Rattle.meaning.specs.Records.{operationsIn}
+use Rattle.meaning.specs.inside.Records.{operationsIn}
 use Rattle.meaning.proofs.Lists.{table-more, table-cong}
-use Rattle.meaning.proofs.Records.{operation-at}
+use Rattle.meaning.proofs.Records.{number-at, operation-at}
 use Rattle.meaning.proofs.Results.{results-append}
 use Rattle.meaning.proofs.Runs.{run-nodes}
-use Rattle.rows.specs.Rows.{rowsAt, Kept}
+use Rattle.rows.specs.inside.Rows.{rowsAt, OthersStay}
 use Rattle.rows.proofs.Bytes.{kept-all, kept-wider, kept-inside}
 use Rattle.rows.proofs.Cases.{by-order}
 use Rattle.rows.proofs.Rows.{row-order}
 use Rattle.rooms.specs.Layout.{roomByte, workByte, overwritten}
-use Rattle.rooms.specs.Ready.{shown, Nodes, Ready}
-use Rattle.rooms.specs.Rooms.{RowWidth, Made}
-use Rattle.rooms.specs.Steps.{roomsIn, Makeable}
+use Rattle.elements.specs.inside.Packing.{shown}
+use Rattle.rooms.specs.inside.FitToRun.{Nodes, FitToRun}
+use Rattle.rooms.specs.inside.Rooms.{RowWidth, RoomMade}
+use Rattle.rooms.specs.inside.Steps.{roomsIn, Makeable}
 use Rattle.rooms.proofs.Elements.{size-is, there-node}
 use Rattle.rooms.proofs.Layouts.{byte-is, overwritten-front, overwritten-past, overwritten-length}
 use Rattle.rooms.proofs.Rooms.{room-kept}
@@ -56,7 +57,7 @@ run-on kept count n os s v w h =
 
 module _ (width : ℕ) where
   -- the rooms below one that is written stay
-  rooms-kept : {xs ys : List ℕ} (s : ℕ) → Kept xs ys (roomBytes width * s) (roomBytes width) → roomBytes width * s ≤ length xs → roomsIn width ys s ≡ roomsIn width xs s
+  rooms-kept : {xs ys : List ℕ} (s : ℕ) → OthersStay xs ys (roomBytes width * s) (roomBytes width) → roomBytes width * s ≤ length xs → roomsIn width ys s ≡ roomsIn width xs s
   unfolding roomsIn
   rooms-kept s k l = table-cong _ _ 0 s λ i h. room-kept width (roomBytes width * i) k l (row-order (roomBytes width) i s (omega arith))
 
@@ -70,7 +71,7 @@ module _ (width : ℕ) where
 pub record Performed (width : ℕ) (kept : List ℕ) (count : ℕ) (p : Program) (old new : List ℕ) (s : ℕ) : Type 0 where
   pub most : s ≤ p .count
   pub rooms : roomsIn width new s ≡ run (shown kept count) (take s (operationsIn p))
-  pub others : Kept old new 0 (roomBytes width * s)
+  pub others : OthersStay old new 0 (roomBytes width * s)
   pub bytes : (i : ℕ) → Fits w8 (getD new i 0)
 
 module _ {width : ℕ} {kept : List ℕ} {count : ℕ} {p : Program} where
@@ -79,16 +80,19 @@ module _ {width : ℕ} {kept : List ℕ} {count : ℕ} {p : Program} where
   performed-none f = record { most = omega arith; rooms = refl; others = kept-all; bytes = f }
 
   -- Step s is to be made.
-  module _ {old xs : List ℕ} {s : ℕ} (x : Step) (sized : RowWidth width) (r : Ready kept count p) (n : Performed width kept count p old xs s) (l : s < p .count) (long : length (p .steps) ≡ stepLimit)
+  module _ {old xs : List ℕ} {s : ℕ} (x : Step) (sized : RowWidth width) (r : FitToRun kept count p) (n : Performed width kept count p old xs s) (l : s < p .count) (long : length (p .steps) ≡ stepLimit)
       (fits : roomBytes width * p .count ≤ length old) where
     operation-is : getD (operationsIn p) s Itself ≡ getD (p .steps) s x .operation
     operation-is = operation-at p s x l (omega (arith, r .whole, r .legal .most-steps))
 
+    number-is : getD (p .steps) s x .number ≡ s
+    number-is = number-at p s x (r .numbered) l (omega (arith, r .whole, r .legal .most-steps))
+
     room : roomBytes width * s + roomBytes width ≤ length xs
     room = omega (arith, n .others .same, row-order (roomBytes width) s (p .count) l)
 
-    pub makeable : Makeable width kept count xs s (getD (p .steps) s x .operation)
-    makeable = record {
+    makeable-here : Makeable width kept count xs s (getD (p .steps) s x .operation)
+    makeable-here = record {
       sized = sized;
       nodes = r .nodes;
       k = r .k;
@@ -99,9 +103,15 @@ module _ {width : ℕ} {kept : List ℕ} {count : ℕ} {p : Program} where
           (ap (λ (rs : List Relation). at rs i v w) (sym (n .rooms)) ∙ ap (λ (q : Relation). q v w) (room-of width xs s i m) ∙ h);
     }
 
-    pub performed-more : {ys : List ℕ} → Made width xs ys (roomBytes width * s) (rows (shown kept count) (roomsIn width xs s) (getD (p .steps) s x .operation))
-        → ((i : ℕ) → Fits w8 (getD ys i 0)) → Performed width kept count p old ys (s + 1)
-    performed-more {ys} m f = record {
+    -- its number is its place
+    pub makeable : Makeable width kept count xs (getD (p .steps) s x .number) (getD (p .steps) s x .operation)
+    makeable = rw number-is makeable-here
+
+    abbrev MadeAt : List ℕ → ℕ → Type 0
+    MadeAt ys number = RoomMade width xs ys (roomBytes width * number) (rows (shown kept count) (roomsIn width xs number) (getD (p .steps) s x .operation))
+
+    performed-here : {ys : List ℕ} → MadeAt ys s → ((i : ℕ) → Fits w8 (getD ys i 0)) → Performed width kept count p old ys (s + 1)
+    performed-here {ys} m f = record {
       most = omega arith;
       rooms = rooms-more;
       others = kept-inside (omega arith) (omega arith) (kept-wider (omega arith) (n .others)) (m .others);
@@ -117,8 +127,11 @@ module _ {width : ℕ} {kept : List ℕ} {count : ℕ} {p : Program} where
             ∙ ap (λ (rs : List Relation). rs ++ (rows (shown kept count) rs o ∷ [])) (n .rooms)
             ∙ sym (ap (run (shown kept count)) next ∙ run-more (shown kept count) (take s (operationsIn p)) o)
 
+    pub performed-more : {ys : List ℕ} → MadeAt ys (getD (p .steps) s x .number) → ((i : ℕ) → Fits w8 (getD ys i 0)) → Performed width kept count p old ys (s + 1)
+    performed-more {ys} made f = performed-here (rw number-is at made) f
+
   -- after the last step, every byte is as the layout says
-  pub performed-all : {old new : List ℕ} {s : ℕ} → RowWidth width → Ready kept count p → Performed width kept count p old new s → p .count ≤ s → roomBytes width * p .count ≤ length old
+  pub performed-all : {old new : List ℕ} {s : ℕ} → RowWidth width → FitToRun kept count p → Performed width kept count p old new s → p .count ≤ s → roomBytes width * p .count ≤ length old
       → new ≡ overwritten (workByte width (shown kept count) (operationsIn p)) (roomBytes width * p .count) old
   unfolding workByte
   performed-all {old} {new} {s} sized r n l fits =

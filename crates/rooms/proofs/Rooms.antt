@@ -15,11 +15,11 @@ use Rattle.meaning.specs.Relations.{Relation, nothing}
 use Rattle.meaning.proofs.Sets.{bit-none}
 use Rattle.meaning.proofs.Tests.{never}
 use Rattle.meaning.proofs.Closure.{On}
-use Rattle.rows.specs.Rows.{inRow, inBytes, Bits, Placed, including, stretch, rowsAt, Kept, Written, RowMade, BitPut, Next}
+use Rattle.rows.specs.inside.Rows.{inRow, inBytes, Bits, Placed, including, stretch, rowsAt, OthersStay, BytesMade, RowMade, BitPut, Next}
 use Rattle.rows.proofs.Bytes.{kept-all, kept-wider, kept-inside, stretch-kept, written-none, written-more}
 use Rattle.rows.proofs.Cases.{by-order, by-equal}
 use Rattle.rows.proofs.Rows.{row-order, row-bit, row-past, row-read}
-use Rattle.rooms.specs.Rooms.{RowWidth, upTo, columns, changed, added, Places, Made}
+use Rattle.rooms.specs.inside.Rooms.{RowWidth, upTo, columns, changed, added, Places, RoomMade}
 use Rattle.rooms.proofs.Changes.{changed-here, changed-else, upTo-none, columns-none, row-next, column-next}
 
 module _ (width : ℕ) where
@@ -56,7 +56,7 @@ module _ (width : ℕ) where
       (λ l. ap (λ (row : List ℕ). ltb v (rowBits width) && inBytes row w) (h l))
       (λ l. no-row ys base v w l ∙ sym (no-row xs base v w l))
 
-  pub room-kept : {xs ys : List ℕ} {from size : ℕ} (a : ℕ) → Kept xs ys from size → from ≤ length xs → a + roomBytes width ≤ from → rowsAt width ys a ≡ rowsAt width xs a
+  pub room-kept : {xs ys : List ℕ} {from size : ℕ} (a : ℕ) → OthersStay xs ys from size → from ≤ length xs → a + roomBytes width ≤ from → rowsAt width ys a ≡ rowsAt width xs a
   room-kept {xs} {ys} a k l m = fun-ext λ v. fun-ext
       (row-kept xs ys a v λ h. let o = row-order width v (rowBits width) h in stretch-kept width (a + width * v) k (omega arith) (inl (omega arith)))
 
@@ -66,7 +66,7 @@ module _ (width : ℕ) where
     row-got xs e b = row-read width xs base v (p .below) (rw (← (p .is), e) b)
 
     module _ {xs ys : List ℕ} (r : base + roomBytes width ≤ length xs) where
-      row-changed : {f : ℕ → Bool} → RowMade width xs ys at f → Made width xs ys base (changed v f (rowsAt width xs base))
+      row-changed : {f : ℕ → Bool} → RowMade width xs ys at f → RoomMade width xs ys base (changed v f (rowsAt width xs base))
       row-changed {f} m = record {
         rows = λ u w. by-equal u v
             (λ e. ap (λ (x : ℕ). rowsAt width ys base x w) e ∙ sym (row-is ys base v w (p .below)) ∙ rw (← (p .is)) (m .bits w) ∙ sym (changed-here v f _ e w))
@@ -80,10 +80,10 @@ module _ (width : ℕ) where
               stretch-kept width (base + width * u) (m .others) (omega arith)
               (by-order u v (λ h. inl (omega (arith, row-order width u v h, p .is))) (λ h. inr (omega (arith, row-order width v u (omega arith), p .is))))
 
-      pub row-written : {f : ℕ → Bool} → RowWidth width → RowMade (small .row) xs ys at f → Made width xs ys base (changed v f (rowsAt width xs base))
+      pub row-written : {f : ℕ → Bool} → RowWidth width → RowMade (small .row) xs ys at f → RoomMade width xs ys base (changed v f (rowsAt width xs base))
       row-written e m = row-changed (rw e m)
 
-      pub row-put : {w : ℕ} {there : Bool} → w < rowBits width → BitPut xs ys at w there → Made width xs ys base (added v w there (rowsAt width xs base))
+      pub row-put : {w : ℕ} {there : Bool} → w < rowBits width → BitPut xs ys at w there → RoomMade width xs ys base (added v w there (rowsAt width xs base))
       unfolding including added
       row-put {w} {there} l m =
           let k = row-changed (m .row width l (omega (arith, p .inside))) in
@@ -104,11 +104,11 @@ module _ (width : ℕ) where
   }
 
   -- zeros up to k; as many as a room has bytes relate nothing
-  module _ {xs ys : List ℕ} {base k : ℕ} (c : Written xs ys base k (λ j. 0)) where
-    pub zero-more : base + roomBytes width ≤ length xs → k < width * width * 8 → Written xs (set ys (base + k) 0) base (k + 1) (λ j. 0)
+  module _ {xs ys : List ℕ} {base k : ℕ} (c : BytesMade xs ys base k (λ j. 0)) where
+    pub zero-more : base + roomBytes width ≤ length xs → k < width * width * 8 → BytesMade xs (set ys (base + k) 0) base (k + 1) (λ j. 0)
     zero-more r l = written-more c (let m : k < roomBytes width = omega arith in m) r refl
 
-    pub cleared : k ≤ width * width * 8 → width * width * 8 ≤ k → Made width xs ys base nothing
+    pub cleared : k ≤ width * width * 8 → width * width * 8 ≤ k → RoomMade width xs ys base nothing
     cleared m l = record {
       rows = λ v w. by-order v (rowBits width)
           (λ h. by-order (w / 8) width
@@ -121,19 +121,19 @@ module _ (width : ℕ) where
         zero-at : (i : ℕ) {j : ℕ} → i < k → base + i ≡ j → getD ys j 0 ≡ 0
         zero-at i h e = ap (λ (j : ℕ). getD ys j 0) (sym e) ∙ c .bytes i h
 
-  pub made-as : {xs ys : List ℕ} {base at : ℕ} {r s : Relation} → base ≡ at → Made width xs ys base r → ((v w : ℕ) → r v w ≡ s v w) → Made width xs ys at s
+  pub made-as : {xs ys : List ℕ} {base at : ℕ} {r s : Relation} → base ≡ at → RoomMade width xs ys base r → ((v w : ℕ) → r v w ≡ s v w) → RoomMade width xs ys at s
   made-as e m h = rw (← e) record { rows = λ v w. m .rows v w ∙ h v w; others = m .others }
 
   -- What is made in a room after something else: it is blank at first, has a row more, or a column more with one number.
-  module _ {old xs : List ℕ} {base : ℕ} {q : Relation} (m : Made width old xs base q) where
-    pub made-none : {r : Relation} → ((v w : ℕ) → r v w ≡ q v w) → Made width xs xs base r
+  module _ {old xs : List ℕ} {base : ℕ} {q : Relation} (m : RoomMade width old xs base q) where
+    pub made-none : {r : Relation} → ((v w : ℕ) → r v w ≡ q v w) → RoomMade width xs xs base r
     made-none h = record { rows = λ v w. m .rows v w ∙ sym (h v w); others = kept-all }
 
-    pub made-after : {ys : List ℕ} {r : Relation} → Made width xs ys base r → Made width old ys base r
+    pub made-after : {ys : List ℕ} {r : Relation} → RoomMade width xs ys base r → RoomMade width old ys base r
     made-after k = record { rows = k .rows; others = kept-inside (omega arith) (omega arith) (m .others) (k .others) }
 
   -- the rooms that it is made of stay
-  module _ {old xs : List ℕ} {base a b size : ℕ} (k : Kept old xs base (roomBytes width)) (p : Places width (length old) base a b size) where
+  module _ {old xs : List ℕ} {base a b size : ℕ} (k : OthersStay old xs base (roomBytes width)) (p : Places width (length old) base a b size) where
     pub operands-kept : (rowsAt width xs a ≡ rowsAt width old a) × (rowsAt width xs b ≡ rowsAt width old b)
     operands-kept = let l : base ≤ length old = omega (arith, p .room) in (room-kept a k l (p .left), room-kept b k l (p .right))
 
@@ -141,14 +141,14 @@ module _ (width : ℕ) where
     places-kept = record { sized = p .sized; room = omega (arith, k .same, p .room); left = p .left; right = p .right; few = p .few }
 
   module _ {old xs ys : List ℕ} {base : ℕ} (r : Relation) where
-    pub row-more : (v : ℕ) (f : ℕ → Bool) → Made width old xs base (upTo v r) → Made width xs ys base (changed v f (rowsAt width xs base)) → ((w : ℕ) → f w ≡ r v w)
-        → Made width old ys base (upTo (v + 1) r)
+    pub row-more : (v : ℕ) (f : ℕ → Bool) → RoomMade width old xs base (upTo v r) → RoomMade width xs ys base (changed v f (rowsAt width xs base)) → ((w : ℕ) → f w ≡ r v w)
+        → RoomMade width old ys base (upTo (v + 1) r)
     unfolding changed
     row-more v f m k h =
         made-after m record { rows = λ u w. k .rows u w ∙ ap₂ (cond (eqb u v)) (h w) (m .rows u w) ∙ row-next r v u w; others = k .others }
 
-    pub column-more : (u w : ℕ) (there : Bool) → Made width old xs base (columns w r) → Made width xs ys base (added u w there (rowsAt width xs base))
-        → ((v : ℕ) → r v w ≡ there && eqb u v) → Made width old ys base (columns (w + 1) r)
+    pub column-more : (u w : ℕ) (there : Bool) → RoomMade width old xs base (columns w r) → RoomMade width xs ys base (added u w there (rowsAt width xs base))
+        → ((v : ℕ) → r v w ≡ there && eqb u v) → RoomMade width old ys base (columns (w + 1) r)
     unfolding added
     column-more u w there m k h =
         made-after m record {

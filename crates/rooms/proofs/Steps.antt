@@ -12,20 +12,22 @@ use Rattle.meaning.specs.declared.Operation.{Operation}
 use Rattle.meaning.specs.declared.Operation.the-variants.{Table, Itself, Text, Join, Union, Closure, Has, Diff, Both}
 use Rattle.meaning.specs.Limits.{small, rowBits, roomBytes}
 use Rattle.meaning.specs.Sets.{any}
+use Rattle.meaning.specs.inside.Diagonal.{diagonal}
 use Rattle.meaning.specs.Relations.{Relation, nothing, at, join, unite, has, difference, intersection, closure}
 use Rattle.meaning.specs.Operations.{LegalOperation, rows}
 use Rattle.meaning.proofs.Lists.{table-length, table-at}
 use Rattle.meaning.proofs.Tests.{never}
 use Rattle.meaning.proofs.Runs.{OnNodes, rows-nodes}
 use Rattle.rows.specs.declared.Mix.the-variants.{Either, Both as Shared, First}
-use Rattle.rows.specs.Rows.{mixes, rowsAt, diagonal, mixture}
+use Rattle.rows.specs.inside.Rows.{mixes, rowsAt, mixedRows}
 use Rattle.rows.proofs.Cases.{by-order}
 use Rattle.rows.proofs.Rows.{row-order}
 use Rattle.rooms.specs.declared.room.Test.{Test}
 use Rattle.rooms.specs.declared.room.Test.the-variants.{Always, Text as Texts, Related}
-use Rattle.rooms.specs.Rooms.{RowWidth, upTo, columns, passing, Places, Testable, Made, Closable}
-use Rattle.rooms.specs.Ready.{shown, Nodes}
-use Rattle.rooms.specs.Steps.{roomsIn, Makeable}
+use Rattle.rooms.specs.inside.Rooms.{RowWidth, upTo, columns, passing, Places, Testable, RoomMade, Closable}
+use Rattle.elements.specs.inside.Packing.{shown}
+use Rattle.rooms.specs.inside.FitToRun.{Nodes}
+use Rattle.rooms.specs.inside.Steps.{roomsIn, Makeable}
 use Rattle.rooms.proofs.Changes.{upTo-all, columns-all}
 use Rattle.rooms.proofs.Rooms.{made-as}
 use Rattle.rooms.proofs.Elements.{size-is, node-there, there-node}
@@ -126,39 +128,39 @@ module _ {width : ℕ} {kept : List ℕ} {count : ℕ} {xs : List ℕ} {s : ℕ}
     -- What each operation makes is its step's rows.
     module _ (ys : List ℕ) where
       abbrev Right : Type 0
-      Right = Made width xs ys (roomBytes width * s) (rows (shown kept count) (roomsIn width xs s) o)
+      Right = RoomMade width xs ys (roomBytes width * s) (rows (shown kept count) (roomsIn width xs s) o)
 
-      of-rows : (r : Relation) → ((v w : ℕ) → r v w ≡ rows (shown kept count) (roomsIn width xs s) o v w) → Made width xs ys base (upTo (count + 1) r) → Right
+      of-rows : (r : Relation) → ((v w : ℕ) → r v w ≡ rows (shown kept count) (roomsIn width xs s) o v w) → RoomMade width xs ys base (upTo (count + 1) r) → Right
       unfolding upTo
       of-rows r h k = made-as width b k λ v w. ap (λ (t : Bool). ltb v (count + 1) && t) (h v w) ∙ upTo-all (count + 1) _ (λ v w e. within v w e .0) v w
 
       of-tests : (test : Test) → ((v w : ℕ) → eqb v w && passing width (shown kept count) xs test v ≡ rows (shown kept count) (roomsIn width xs s) o v w)
-          → Made width xs ys base (columns (count + 1) (diagonal (passing width (shown kept count) xs test))) → Right
+          → RoomMade width xs ys base (columns (count + 1) (diagonal (passing width (shown kept count) xs test))) → Right
       unfolding columns diagonal
       of-tests test h k = made-as width b k λ v w. ap (λ (t : Bool). ltb w (count + 1) && t) (h v w) ∙ columns-all (count + 1) _ (λ v w e. within v w e .1) v w
 
-      pub table-made : (mask : ℕ) → o ≡ Table mask → Made width xs ys base (rows (shown kept count) [] (Table mask)) → Right
+      pub table-made : (mask : ℕ) → o ≡ Table mask → RoomMade width xs ys base (rows (shown kept count) [] (Table mask)) → Right
       unfolding rows
       table-made mask e k = rw e (made-as width b k λ v w. refl)
 
-      pub itself-made : o ≡ Itself → Made width xs ys base (columns (count + 1) (diagonal (passing width (shown kept count) xs Always))) → Right
+      pub itself-made : o ≡ Itself → RoomMade width xs ys base (columns (count + 1) (diagonal (passing width (shown kept count) xs Always))) → Right
       unfolding rows passing
       itself-made e = of-tests Always (λ v w. rw e)
 
-      pub text-made : (number : ℕ) → o ≡ Text number → Made width xs ys base (columns (count + 1) (diagonal (passing width (shown kept count) xs (Texts number)))) → Right
+      pub text-made : (number : ℕ) → o ≡ Text number → RoomMade width xs ys base (columns (count + 1) (diagonal (passing width (shown kept count) xs (Texts number)))) → Right
       unfolding rows passing
       text-made number e = of-tests (Texts number) (λ v w. rw e)
 
-      pub has-made : (a x : ℕ) → o ≡ Has a → x ≡ roomBytes width * a → Made width xs ys base (columns (count + 1) (diagonal (passing width (shown kept count) xs (Related x)))) → Right
+      pub has-made : (a x : ℕ) → o ≡ Has a → x ≡ roomBytes width * a → RoomMade width xs ys base (columns (count + 1) (diagonal (passing width (shown kept count) xs (Related x)))) → Right
       unfolding rows passing has LegalOperation
       has-made a x e f = of-tests (Related x) (λ v w. rw (e, operand-is (rw e at (m .legal)) f))
 
-      pub closure-made : (a x : ℕ) → o ≡ Closure a → x ≡ roomBytes width * a → Made width xs ys base (closure (count + 1) (rowsAt width xs x)) → Right
+      pub closure-made : (a x : ℕ) → o ≡ Closure a → x ≡ roomBytes width * a → RoomMade width xs ys base (closure (count + 1) (rowsAt width xs x)) → Right
       unfolding rows LegalOperation
       closure-made a x e f k = rw e (made-as width b k λ v w. ap₂ (λ (n : ℕ) (r : Relation). closure n r v w) size (operand-is (rw e at (m .legal)) f))
 
       abbrev OfTwo : (ℕ → ℕ → Operation) → (Relation → Relation → Relation) → Type 0
-      OfTwo op f = (a c x y : ℕ) → o ≡ op a c → x ≡ roomBytes width * a → y ≡ roomBytes width * c → Made width xs ys base (upTo (count + 1) (f (rowsAt width xs x) (rowsAt width xs y))) → Right
+      OfTwo op f = (a c x y : ℕ) → o ≡ op a c → x ≡ roomBytes width * a → y ≡ roomBytes width * c → RoomMade width xs ys base (upTo (count + 1) (f (rowsAt width xs x) (rowsAt width xs y))) → Right
 
       of-two : (op : ℕ → ℕ → Operation) (f : Relation → Relation → Relation) → ((k a c : ℕ) → LegalOperation k s (op a c) → (a < s) × (c < s))
           → ((a c v w : ℕ) → f (at (roomsIn width xs s) a) (at (roomsIn width xs s) c) v w ≡ rows (shown kept count) (roomsIn width xs s) (op a c) v w) → OfTwo op f
@@ -170,17 +172,17 @@ module _ {width : ℕ} {kept : List ℕ} {count : ℕ} {xs : List ℕ} {s : ℕ}
       unfolding rows LegalOperation
       join-made = of-two Join (join (count + 1)) (λ k a c l. l) λ a c v w. ap (λ (n : ℕ). join n (at (roomsIn width xs s) a) (at (roomsIn width xs s) c) v w) size
 
-      pub union-made : OfTwo Union (mixture Either)
-      unfolding rows LegalOperation unite mixture mixes
-      union-made = of-two Union (mixture Either) (λ k a c l. l) λ a c v w. refl
+      pub union-made : OfTwo Union (mixedRows Either)
+      unfolding rows LegalOperation unite mixedRows mixes
+      union-made = of-two Union (mixedRows Either) (λ k a c l. l) λ a c v w. refl
 
-      pub diff-made : OfTwo Diff (mixture First)
-      unfolding rows LegalOperation difference mixture mixes
-      diff-made = of-two Diff (mixture First) (λ k a c l. l) λ a c v w. refl
+      pub diff-made : OfTwo Diff (mixedRows First)
+      unfolding rows LegalOperation difference mixedRows mixes
+      diff-made = of-two Diff (mixedRows First) (λ k a c l. l) λ a c v w. refl
 
-      pub both-made : OfTwo Both (mixture Shared)
-      unfolding rows LegalOperation intersection mixture mixes
-      both-made = of-two Both (mixture Shared) (λ k a c l. l) λ a c v w. refl
+      pub both-made : OfTwo Both (mixedRows Shared)
+      unfolding rows LegalOperation intersection mixedRows mixes
+      both-made = of-two Both (mixedRows Shared) (λ k a c l. l) λ a c v w. refl
 
 pub ruleset laws = (
   join-places,

@@ -11,8 +11,8 @@ use Rattle.meaning.proofs.Tests.{never, same, and-in, and-left, and-right, or-l
 use Rattle.meaning.proofs.Sets.{any-in, any-out}
 use Rattle.meaning.proofs.Closure.{On, closure-sound, closure-complete}
 use Rattle.rows.specs.declared.Mix.the-variants.{First}
-use Rattle.rows.specs.Rows.{gathered, mixes}
-use Rattle.rooms.specs.Rooms.{changed, Grown}
+use Rattle.rows.specs.inside.Rows.{gathered, mixes}
+use Rattle.rooms.specs.inside.Rooms.{changed, Grown}
 use Rattle.rows.proofs.Cases.{by-order, by-equal}
 use Rattle.rooms.proofs.Changes.{changed-here, changed-else}
 
@@ -108,15 +108,15 @@ module _ (size : ℕ) (r : Relation) where
         (λ q. sym (elsewhere x w q) ∙ h)
 
     -- a row above v is as it was by then
-    above : (u w : ℕ) → v < u → d u w ≡ true → c u w ≡ true
-    above u w l h = sym (elsewhere u w (λ e. omega arith)) ∙ h
+    higher : (u w : ℕ) → v < u → d u w ≡ true → c u w ≡ true
+    higher u w l h = sym (elsewhere u w (λ e. omega arith)) ∙ h
 
     pub sweeping-more : Sweeping b d v (g || t) (k || s)
     sweeping-more = record {
       grown = record {
         keeps = λ x w h. stays x w (n .grown .keeps x w h);
         takes = λ x u w l m e h. by-equal x v (λ q. taken x u w q e (n .grown .keeps u w h)) (λ q. stays x w (n .grown .takes x u w (omega arith) m e h));
-        settles = λ x u w l m i e h. let before = above u w (omega arith) h in
+        settles = λ x u w l m i e h. let before = higher u w (omega arith) h in
             by-equal x v (λ q. taken x u w q e before) (λ q. stays x w (n .grown .settles x u w (omega arith) m i e before));
         sound = λ p over in-p x w h.
             out (λ y. p y w ≡ true) x w (n .grown .sound p over in-p x w) (λ u e q. over v u w e (n .grown .sound p over in-p u w q)) h;

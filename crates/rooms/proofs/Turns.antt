@@ -16,12 +16,12 @@ use Rattle.meaning.proofs.Sets.{any-in, any-out, any-cong}
 use Rattle.meaning.proofs.Closure.{On}
 use Rattle.rows.specs.declared.Mix.{Mix}
 use Rattle.rows.specs.declared.Mix.the-variants.{Both}
-use Rattle.rows.specs.Rows.{inRow, Bits, including, gathered, mixes, rowsAt, Next, mixture}
+use Rattle.rows.specs.inside.Rows.{inRow, Bits, including, gathered, mixes, rowsAt, Next, mixedRows}
 use Rattle.rows.proofs.Searches.{some-below}
 use Rattle.rows.proofs.Rows.{row-blank}
 use Rattle.rooms.specs.declared.room.Way.{Way}
 use Rattle.rooms.specs.declared.room.Way.the-variants.{Mixed, Joined}
-use Rattle.rooms.specs.Rooms.{RowWidth, upTo, changed, starting, combined, Places, Made}
+use Rattle.rooms.specs.inside.Rooms.{RowWidth, upTo, changed, starting, combined, Places, RoomMade}
 use Rattle.rooms.proofs.Changes.{upTo-none, one-more}
 use Rattle.rooms.proofs.Rooms.{room-on, made-as, made-none, made-after, operands-kept, places-kept, row-more}
 
@@ -71,21 +71,21 @@ pub ruleset starts-laws = (starts-none, starts-more, starts-all, needs)
 pub record Combining (width : ℕ) (old new : List ℕ) (base a b size : ℕ) (way : Way) (there : List ℕ) (v : ℕ) : Type 0 where
   pub places : Places width (length old) base a b size
   pub most : v ≤ size
-  pub made : Made width old new base (upTo v (combined (rowBits width) way (inRow there) (rowsAt width old a) (rowsAt width old b)))
+  pub made : RoomMade width old new base (upTo v (combined (rowBits width) way (inRow there) (rowsAt width old a) (rowsAt width old b)))
 
 module _ (width : ℕ) {old xs : List ℕ} {base a b size : ℕ} {way : Way} {there : List ℕ} where
-  pub combining-none : Places width (length old) base a b size → Made width old xs base nothing → Combining width xs xs base a b size way there 0
+  pub combining-none : Places width (length old) base a b size → RoomMade width old xs base nothing → Combining width xs xs base a b size way there 0
   combining-none p c = record { places = places-kept width (c .others) p; most = omega arith; made = made-none width c (upTo-none _) }
 
   module _ {v : ℕ} (n : Combining width old xs base a b size way there v) where
     pub combining-more : {ys row : List ℕ} → v < size → Bits row (combined (rowBits width) way (inRow there) (rowsAt width xs a) (rowsAt width xs b) v)
-        → Made width xs ys base (changed v (inRow row) (rowsAt width xs base)) → Combining width old ys base a b size way there (v + 1)
+        → RoomMade width xs ys base (changed v (inRow row) (rowsAt width xs base)) → Combining width old ys base a b size way there (v + 1)
     combining-more l m k =
         let same = operands-kept width (n .made .others) (n .places) in
         record { places = n .places; most = omega arith; made = row-more width _ _ _ (n .made) k (rw (same .0, same .1) at (m .bits)) }
 
-    pub combining-all : {first : List ℕ} → size ≤ v → Places width (length first) base a b size → Made width first old base nothing
-        → Made width first xs base (upTo size (combined (rowBits width) way (inRow there) (rowsAt width first a) (rowsAt width first b)))
+    pub combining-all : {first : List ℕ} → size ≤ v → Places width (length first) base a b size → RoomMade width first old base nothing
+        → RoomMade width first xs base (upTo size (combined (rowBits width) way (inRow there) (rowsAt width first a) (rowsAt width first b)))
     combining-all l p c =
         let same = operands-kept width (c .others) p in
         let e : v ≡ size = omega (arith, n .most) in
@@ -106,14 +106,14 @@ empty-left {size} {limit} {s} f l on w =
 
 -- the two ways
 module _ (width : ℕ) {xs ys : List ℕ} {base : ℕ} (size : ℕ) where
-  pub mix-made : (limit : ℕ) (there : ℕ → Bool) (r s : Relation) (how : Mix) → Made width xs ys base (upTo size (combined limit (Mixed how) there r s))
-      → Made width xs ys base (upTo size (mixture how r s))
-  unfolding upTo combined mixture
+  pub mix-made : (limit : ℕ) (there : ℕ → Bool) (r s : Relation) (how : Mix) → RoomMade width xs ys base (upTo size (combined limit (Mixed how) there r s))
+      → RoomMade width xs ys base (upTo size (mixedRows how r s))
+  unfolding upTo combined mixedRows
   mix-made limit there r s how k = made-as width refl k λ v w. refl
 
   pub join-made : (a b : ℕ) {there : List ℕ} → Places width (length xs) base a b size → Bits there (starting (rowBits width) size (rowsAt width xs b))
-      → Made width xs ys base (upTo size (combined (rowBits width) Joined (inRow there) (rowsAt width xs a) (rowsAt width xs b)))
-      → Made width xs ys base (upTo size (join size (rowsAt width xs a) (rowsAt width xs b)))
+      → RoomMade width xs ys base (upTo size (combined (rowBits width) Joined (inRow there) (rowsAt width xs a) (rowsAt width xs b)))
+      → RoomMade width xs ys base (upTo size (join size (rowsAt width xs a) (rowsAt width xs b)))
   unfolding upTo combined starting join
   join-made a b p t k = made-as width refl k λ v w. ap (λ (x : Bool). ltb v size && x)
       (any-cong (rowBits width) _ _ (λ u l. ap (λ (x : Bool). (rowsAt width xs a v u && x) && rowsAt width xs b u w) (t .bits u)) ∙ empty-left (rowsAt width xs a v) (p .few) (room-on width xs b) w)

@@ -1,5 +1,5 @@
--- The work area: the rooms of the steps follow each other, and in each the rows; (v, w) is bit w mod 8, lowest first, of
--- byte w div 8 of the row of v; all other bits of a step are 0.
+-- The work area: the steps' rooms, one behind the other, and in a room a row of bits for each node; bits are counted from
+-- the lowest of a byte up, and bit w of the row of v is set where the step has (v, w), and no other.
 use Prim.Native.Nat.{ℕ, _+_, _*_, _/_, _%_}
 use mathlib.Core.List.{List}
 use lib.ListN.{getD}

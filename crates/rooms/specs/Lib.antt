@@ -1,5 +1,3 @@
 pub mod Layout
-pub mod Rooms
-pub mod Ready
-pub mod Steps
 pub mod Run
+pub mod inside

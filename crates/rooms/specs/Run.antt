@@ -24,8 +24,8 @@ pub record Ran : Type 0 where
   pub work : List ℕ
 
 -- turned away: both buffers have the bytes they came with
-abbrev pub untouched : Refusal → List ℕ → List ℕ → Ran
-untouched r out work = record { answer = turnedAway r; out = out; work = work }
+abbrev pub bothUntouched : Refusal → List ℕ → List ℕ → Ran
+bothUntouched r out work = record { answer = turnedAway r; out = out; work = work }
 
 -- these bytes in the answer's buffer and the steps' rows in the work area, where there is room for both
 abbrev pub leaves : ℕ → List ℕ → View → List Operation → List ℕ → List ℕ → Ran
@@ -36,7 +36,7 @@ leaves room bytes d os out work =
       out = over 0 bytes out;
       work = overwritten (workByte (small .row) d os) (roomBytes (small .row) * length os) work;
     })
-    (untouched (record { reason = Room }) out work)
+    (bothUntouched (record { reason = Room }) out work)
 
 -- a program over what a document shows: a byte for each node, and a room of work area for each step
 unfoldable pub performed : View → List Operation → List ℕ → List ℕ → Ran

@@ -4,11 +4,12 @@ ghost use Prim.Native.Nat.{_*_, _≤_, _<_};
 ghost use lib.ListN.{length};
 ghost use Rattle.meaning.specs.Limits.{roomBytes};
 ghost use Rattle.meaning.specs.Operations.{rows};
-ghost use Rattle.meaning.specs.Records.{operationsIn};
+ghost use Rattle.meaning.specs.inside.Records.{operationsIn};
 ghost use Rattle.rooms.specs.Layout.{workByte, overwritten};
-ghost use Rattle.rooms.specs.Rooms.{RowWidth, Made};
-ghost use Rattle.rooms.specs.Ready.{shown, Ready};
-ghost use Rattle.rooms.specs.Steps.{roomsIn, Makeable};
+ghost use Rattle.rooms.specs.inside.Rooms.{RowWidth, RoomMade};
+ghost use Rattle.elements.specs.inside.Packing.{shown};
+ghost use Rattle.rooms.specs.inside.FitToRun.{FitToRun};
+ghost use Rattle.rooms.specs.inside.Steps.{roomsIn, Makeable};
 ghost use Rattle.rooms.specs.Run.{performed, Gives};
 
 mod room;
@@ -20,6 +21,7 @@ use meaning::Operation;
 use meaning::Program;
 use meaning::Reason;
 use meaning::SMALL;
+use meaning::Step;
 use rows::Mix;
 
 // The place of a step's room.
@@ -30,7 +32,7 @@ fn room_at(step: usize, width: usize) -> usize
     width * width * 8 * step
 }
 
-// The place of an operand's room.
+// The place of the room of the step with this number.
 fn place(step: u8, width: usize) -> usize
     requires { ⌜ RowWidth width ⌝ }
     ensures { λ r. ⌜ r ≡ roomBytes width * step ⌝ }
@@ -38,13 +40,14 @@ fn place(step: u8, width: usize) -> usize
     room_at(step as usize, width)
 }
 
-// Makes step s in its room, from the rooms of its operands.
-fn make(work: &mut [u8], kept: &[u32], count: usize, s: usize, operation: Operation, width: usize)
-    requires { ⌜ Makeable width (now kept) count (now work) s operation ⌝ }
-    ensures { λ r. ⌜ Made width (now (work .entry)) (now (work .exit)) (roomBytes width * s) (rows (shown (now (kept .entry)) count) (roomsIn width (now (work .entry)) s) operation) ⌝ }
+// Makes a step in the room of its number, from the rooms of its operands.
+fn make(work: &mut [u8], kept: &[u32], count: usize, step: Step, width: usize)
+    requires { ⌜ Makeable width (now kept) count (now work) (step .number) (step .operation) ⌝ }
+    ensures { λ r. ⌜ RoomMade width (now (work .entry)) (now (work .exit)) (roomBytes width * step .number) (rows (shown (now (kept .entry)) count) (roomsIn width (now (work .entry)) (step .number)) (step .operation)) ⌝ }
 {
-    let base = room_at(s, width);
+    let base = place(step.number, width);
     let size = count + 1;
+    let operation = step.operation;
     match operation {
         Operation::Table(mask) => room::table(work, base, kept, count, mask, width),
         Operation::Itself => room::diagonal(work, base, kept, count, Test::Always, width),
@@ -105,15 +108,14 @@ fn make(work: &mut [u8], kept: &[u32], count: usize, s: usize, operation: Operat
 
 // Makes the steps in turn.
 fn perform(work: &mut [u8], kept: &[u32], count: usize, program: Program, width: usize)
-    requires { ⌜ RowWidth width × Ready (now kept) count program × (roomBytes width * program .count ≤ length (now work)) ⌝ }
+    requires { ⌜ RowWidth width × FitToRun (now kept) count program × (roomBytes width * program .count ≤ length (now work)) ⌝ }
     ensures { λ r. ⌜ now (work .exit) ≡ overwritten (workByte width (shown (now (kept .entry)) count) (operationsIn program)) (roomBytes width * program .count) (now (work .entry)) ⌝ }
 {
     let steps = program.count;
     let mut s: usize = 0;
     while s < steps {
         let step = program.steps[s];
-        let operation = step.operation;
-        make(work, kept, count, s, operation, width);
+        make(work, kept, count, step, width);
         s += 1;
     }
 }
@@ -126,7 +128,7 @@ pub fn run_over(
     out: &mut [u8],
     work: &mut [u8],
 ) -> Answer
-    requires { ⌜ Ready (now kept) count program ⌝ }
+    requires { ⌜ FitToRun (now kept) count program ⌝ }
     ensures { λ r. ⌜ Gives (performed (shown (now (kept .entry)) count) (operationsIn program) (now (out .entry)) (now (work .entry))) r (now (out .exit)) (now (work .exit)) ⌝ }
 {
     let width = SMALL.row;

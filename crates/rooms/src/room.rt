@@ -7,11 +7,13 @@ ghost use mathlib.Core.List.{[]};
 ghost use Rattle.meaning.specs.declared.Operation.the-variants.{Table};
 ghost use Rattle.meaning.specs.Limits.{rowBits, roomBytes};
 ghost use Rattle.meaning.specs.Sets.{bit};
+ghost use Rattle.meaning.specs.inside.Diagonal.{diagonal};
 ghost use Rattle.meaning.specs.Relations.{nothing, join, closure};
 ghost use Rattle.meaning.specs.Operations.{rows};
-ghost use Rattle.rows.specs.Rows.{inRow, Bits, rowsAt, diagonal, mixture};
-ghost use Rattle.rooms.specs.Ready.{shown, Nodes};
-ghost use Rattle.rooms.specs.Rooms.{RowWidth, upTo, columns, starting, passing, combined, Places, Testable, Made, Taken, Swept, Closable};
+ghost use Rattle.rows.specs.inside.Rows.{inRow, Bits, rowsAt, mixedRows};
+ghost use Rattle.elements.specs.inside.Packing.{shown};
+ghost use Rattle.rooms.specs.inside.FitToRun.{Nodes};
+ghost use Rattle.rooms.specs.inside.Rooms.{RowWidth, upTo, columns, starting, passing, combined, Places, Testable, RoomMade, TakenIn, Swept, Closable};
 use crate::row;
 use numbers::u8_to_usize;
 use rows::Mix;
@@ -19,7 +21,7 @@ use rows::Mix;
 // No rows.
 fn clear(work: &mut [u8], base: usize, width: usize)
     requires { ⌜ base + roomBytes width ≤ length (now work) ⌝ }
-    ensures { λ r. ⌜ Made width (now (work .entry)) (now (work .exit)) base nothing ⌝ }
+    ensures { λ r. ⌜ RoomMade width (now (work .entry)) (now (work .exit)) base nothing ⌝ }
 {
     let size = width * width * 8;
     let mut k: usize = 0;
@@ -47,7 +49,7 @@ pub(crate) fn table(
     width: usize,
 )
     requires { ⌜ (base + roomBytes width ≤ length (now work)) × (count < rowBits width) × Nodes (now kept) count ⌝ }
-    ensures { λ r. ⌜ Made width (now (work .entry)) (now (work .exit)) base (rows (shown (now (kept .entry)) count) [] (Table mask)) ⌝ }
+    ensures { λ r. ⌜ RoomMade width (now (work .entry)) (now (work .exit)) base (rows (shown (now (kept .entry)) count) [] (Table mask)) ⌝ }
 {
     clear(work, base, width);
     let mut w: usize = 1;
@@ -93,7 +95,7 @@ pub(crate) fn diagonal(
     width: usize,
 )
     requires { ⌜ (base + roomBytes width ≤ length (now work)) × Testable width base (length (now kept)) count test ⌝ }
-    ensures { λ r. ⌜ Made width (now (work .entry)) (now (work .exit)) base (columns (count + 1) (diagonal (passing width (shown (now (kept .entry)) count) (now (work .entry)) test))) ⌝ }
+    ensures { λ r. ⌜ RoomMade width (now (work .entry)) (now (work .exit)) base (columns (count + 1) (diagonal (passing width (shown (now (kept .entry)) count) (now (work .entry)) test))) ⌝ }
 {
     clear(work, base, width);
     let mut v: usize = 0;
@@ -158,7 +160,7 @@ fn combine(
     width: usize,
 )
     requires { ⌜ Places width (length (now work)) base a b size ⌝ }
-    ensures { λ r. ⌜ Made width (now (work .entry)) (now (work .exit)) base (upTo size (combined (rowBits width) way (inRow there) (rowsAt width (now (work .entry)) a) (rowsAt width (now (work .entry)) b))) ⌝ }
+    ensures { λ r. ⌜ RoomMade width (now (work .entry)) (now (work .exit)) base (upTo size (combined (rowBits width) way (inRow there) (rowsAt width (now (work .entry)) a) (rowsAt width (now (work .entry)) b))) ⌝ }
 {
     clear(work, base, width);
     let mut v: usize = 0;
@@ -180,7 +182,7 @@ pub(crate) fn mix(
     width: usize,
 )
     requires { ⌜ Places width (length (now work)) base a b size ⌝ }
-    ensures { λ r. ⌜ Made width (now (work .entry)) (now (work .exit)) base (upTo size (mixture how (rowsAt width (now (work .entry)) a) (rowsAt width (now (work .entry)) b))) ⌝ }
+    ensures { λ r. ⌜ RoomMade width (now (work .entry)) (now (work .exit)) base (upTo size (mixedRows how (rowsAt width (now (work .entry)) a) (rowsAt width (now (work .entry)) b))) ⌝ }
 {
     combine(work, base, a, b, size, Way::Mixed(how), [0; 2], width);
 }
@@ -188,7 +190,7 @@ pub(crate) fn mix(
 // JOIN. Most names lead to an empty row, so those that don't are found first.
 pub(crate) fn join(work: &mut [u8], base: usize, a: usize, b: usize, size: usize, width: usize)
     requires { ⌜ Places width (length (now work)) base a b size ⌝ }
-    ensures { λ r. ⌜ Made width (now (work .entry)) (now (work .exit)) base (upTo size (join size (rowsAt width (now (work .entry)) a) (rowsAt width (now (work .entry)) b))) ⌝ }
+    ensures { λ r. ⌜ RoomMade width (now (work .entry)) (now (work .exit)) base (upTo size (join size (rowsAt width (now (work .entry)) a) (rowsAt width (now (work .entry)) b))) ⌝ }
 {
     let there = starts(work, b, size, width);
     combine(work, base, a, b, size, Way::Joined, there, width);
@@ -197,7 +199,7 @@ pub(crate) fn join(work: &mut [u8], base: usize, a: usize, b: usize, size: usize
 // The row of v takes in those rows of the room at base that the room at a names for v. Whether it grew.
 fn take_in(work: &mut [u8], base: usize, a: usize, v: usize, width: usize) -> bool
     requires { ⌜ Places width (length (now work)) base a a (rowBits width) × (v < rowBits width) ⌝ }
-    ensures { λ r. ⌜ Taken width (now (work .entry)) (now (work .exit)) base a v r ⌝ }
+    ensures { λ r. ⌜ TakenIn width (now (work .entry)) (now (work .exit)) base a v r ⌝ }
 {
     let before = row::read(work, base, v, width);
     let after = rows::gather(work, base, row::read(work, a, v, width), before);
@@ -227,7 +229,7 @@ fn sweep(work: &mut [u8], base: usize, a: usize, size: usize, width: usize) -> b
 // LFP: the room at a, closed under one or more steps. A sweep adds a step at least, and size steps are always enough.
 pub(crate) fn closure(work: &mut [u8], base: usize, a: usize, size: usize, width: usize)
     requires { ⌜ Closable width (now work) base a size ⌝ }
-    ensures { λ r. ⌜ Made width (now (work .entry)) (now (work .exit)) base (closure size (rowsAt width (now (work .entry)) a)) ⌝ }
+    ensures { λ r. ⌜ RoomMade width (now (work .entry)) (now (work .exit)) base (closure size (rowsAt width (now (work .entry)) a)) ⌝ }
 {
     mix(work, base, a, a, size, Mix::Either, width);
     let mut steps: usize = 1;

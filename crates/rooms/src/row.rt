@@ -3,8 +3,8 @@ ghost use mathlib.Core.Path.{_≡_};
 ghost use Prim.Native.Nat.{_+_, _≤_, _<_};
 ghost use lib.ListN.{length};
 ghost use Rattle.meaning.specs.Limits.{rowBits, roomBytes};
-ghost use Rattle.rows.specs.Rows.{inRow, rowsAt, Bits, Next};
-ghost use Rattle.rooms.specs.Rooms.{RowWidth, changed, added, Made};
+ghost use Rattle.rows.specs.inside.Rows.{inRow, rowsAt, Bits, Next};
+ghost use Rattle.rooms.specs.inside.Rooms.{RowWidth, changed, added, RoomMade};
 
 pub(crate) fn read(work: &[u8], a: usize, v: usize, width: usize) -> [u64; 2]
     requires { ⌜ RowWidth width × (a + roomBytes width ≤ length (now work)) × (v < rowBits width) ⌝ }
@@ -15,7 +15,7 @@ pub(crate) fn read(work: &[u8], a: usize, v: usize, width: usize) -> [u64; 2]
 
 pub(crate) fn write(work: &mut [u8], base: usize, v: usize, row: [u64; 2], width: usize)
     requires { ⌜ RowWidth width × (base + roomBytes width ≤ length (now work)) × (v < rowBits width) ⌝ }
-    ensures { λ r. ⌜ Made width (now (work .entry)) (now (work .exit)) base (changed v (inRow row) (rowsAt width (now (work .entry)) base)) ⌝ }
+    ensures { λ r. ⌜ RoomMade width (now (work .entry)) (now (work .exit)) base (changed v (inRow row) (rowsAt width (now (work .entry)) base)) ⌝ }
 {
     rows::write(work, rows::place(base, v, width), row);
 }
@@ -23,7 +23,7 @@ pub(crate) fn write(work: &mut [u8], base: usize, v: usize, row: [u64; 2], width
 // Puts w into the row of v, where it is to be there.
 pub(crate) fn put(work: &mut [u8], base: usize, v: usize, w: usize, there: bool, width: usize)
     requires { ⌜ (base + roomBytes width ≤ length (now work)) × (v < rowBits width) × (w < rowBits width) ⌝ }
-    ensures { λ r. ⌜ Made width (now (work .entry)) (now (work .exit)) base (added v w there (rowsAt width (now (work .entry)) base)) ⌝ }
+    ensures { λ r. ⌜ RoomMade width (now (work .entry)) (now (work .exit)) base (added v w there (rowsAt width (now (work .entry)) base)) ⌝ }
 {
     rows::put(work, rows::place(base, v, width), w, there);
 }

@@ -23,7 +23,7 @@ use Rattle.meaning.proofs.Sets.{bit-none}
 use Rattle.meaning.proofs.Bits.{bit-or, bit-and}
 use Rattle.rows.specs.declared.Mix.{Mix}
 use Rattle.rows.specs.declared.Mix.the-variants.{Either, Both, First}
-use Rattle.rows.specs.Rows.{bitIn, inRow, mixes, mixedWord, Lowest}
+use Rattle.rows.specs.inside.Rows.{bitIn, inRow, mixes, mixedWord, Lowest}
 
 -- bit i + j is bit j after a shift by i
 pub bit-shifted : (i j m : ℕ) → bit (m / 2 ^ i) j ≡ bit m (i + j)

@@ -15,7 +15,7 @@ use Rattle.meaning.specs.Relations.{Relation}
 use Rattle.meaning.proofs.Sets.{any-cong, bit-none, bit-mask}
 use Rattle.rows.specs.declared.Mix.{Mix}
 use Rattle.rows.specs.declared.Mix.the-variants.{Either, Both, First}
-use Rattle.rows.specs.Rows.{bitIn, inRow, inBytes, stretch, rowsFrom, rowsAt, Bits, gathered, mixes, mixedWord, Lowest}
+use Rattle.rows.specs.inside.Rows.{bitIn, inRow, inBytes, stretch, rowsFrom, rowsAt, Bits, gathered, mixes, mixedWord, Lowest}
 use Rattle.rows.proofs.Cases.{by-order, by-equal}
 use Rattle.rows.proofs.Bits.{bit-rest, rest-less, word-bit}
 use Rattle.rows.proofs.Rows.{row-end}

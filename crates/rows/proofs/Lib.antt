@@ -5,4 +5,4 @@ pub mod Rows
 pub mod Words
 pub mod Searches
 pub mod Gathers
-pub mod Answers
+pub mod Tallies

@@ -19,7 +19,7 @@ use lib.Seq.{getD-set-same, getD-set-other}
 use Rattle.meaning.specs.Limits.{rowBits, roomBytes}
 use Rattle.meaning.specs.Sets.{bit}
 use Rattle.meaning.proofs.Sets.{bit-none}
-use Rattle.rows.specs.Rows.{bitIn, inRow, inBytes, Bits, including, stretch, rowsAt, Placed, Lowest, RowMade, Next}
+use Rattle.rows.specs.inside.Rows.{bitIn, inRow, inBytes, Bits, including, stretch, rowsAt, Placed, Lowest, RowMade, Next}
 use Rattle.rows.proofs.Cases.{by-order, by-equal}
 use Rattle.meaning.proofs.Bits.{bits-below, bit-or}
 use Rattle.rows.proofs.Bits.{bit-shifted, shifted-one, bit-power, bit-power-other, words-fit}

@@ -9,7 +9,7 @@ use borrow.Author.Tests.{lt-ltb, le-ltb}
 use lib.Dec.{ltb}
 use Rattle.meaning.specs.Sets.{any, listed}
 use Rattle.meaning.proofs.Sets.{any-in}
-use Rattle.rows.specs.Rows.{Next}
+use Rattle.rows.specs.inside.Rows.{Next}
 use Rattle.rows.proofs.Cases.{by-order, by-equal}
 
 -- where none from k to m passes, a search below m comes to what one below k comes to

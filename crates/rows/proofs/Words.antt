@@ -15,7 +15,7 @@ use Rattle.meaning.specs.Sets.{bit, mask}
 use Rattle.meaning.proofs.Tests.{fails}
 use Rattle.meaning.proofs.Sets.{bit-none, bit-mask}
 use Rattle.meaning.proofs.Bits.{mask-cong, bits-below, bit-and}
-use Rattle.rows.specs.Rows.{bitIn, inRow, inBytes, stretch, Bits, Written, RowMade}
+use Rattle.rows.specs.inside.Rows.{bitIn, inRow, inBytes, stretch, Bits, BytesMade, RowMade}
 use Rattle.rows.proofs.Cases.{by-order}
 use Rattle.rows.proofs.Bits.{bit-shifted, bit-not, digit, is-mask}
 use Rattle.rows.proofs.Bytes.{written-called, kept-wider, kept-inside, stretch-kept}
@@ -62,7 +62,7 @@ module _ (width : ℕ) (xs : List ℕ) (at : ℕ) where
       rw (exact, e, bits, more) (mask-more (8 * k) 8 (inBytes (stretch width xs at)))
 
 -- the bytes of a word, written
-pub word-written : {xs ys : List ℕ} {at k : ℕ} (width word : ℕ) → Written xs ys at k (λ j. mask 8 (λ i. bit word (8 * j + i))) → width ≤ k → k ≤ width → word < 2 ^ (8 * width)
+pub word-written : {xs ys : List ℕ} {at k : ℕ} (width word : ℕ) → BytesMade xs ys at k (λ j. mask 8 (λ i. bit word (8 * j + i))) → width ≤ k → k ≤ width → word < 2 ^ (8 * width)
     → RowMade width xs ys at (bit word)
 word-written {xs} {ys} {at} {k} width word w l m small = record { bits = λ x. by-order (x / 8) width (inside x) (outside x); others = kept-wider m (w .others) }
   where

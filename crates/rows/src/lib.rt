@@ -5,7 +5,7 @@ ghost use Prim.Native.Nat.{_+_, _*_, _^_, _/_, _≤_, _<_};
 ghost use Rattle.meaning.specs.Limits.{small, rowBits, roomBytes};
 ghost use Rattle.meaning.specs.Sets.{bit, mask, listed};
 ghost use lib.ListN.{length};
-ghost use Rattle.rows.specs.Rows.{inRow, inBytes, stretch, rowsFrom, rowsAt, Bits, Placed, including, gathered, mixes, mixedWord, Lowest, RowMade, BitPut, Next};
+ghost use Rattle.rows.specs.inside.Rows.{inRow, inBytes, stretch, rowsFrom, rowsAt, Bits, Placed, including, gathered, mixes, mixedWord, Lowest, RowMade, BitPut, Next};
 ghost use Rattle.writing.specs.Lent.{over};
 use meaning::SMALL;
 use numbers::u8_to_u64;

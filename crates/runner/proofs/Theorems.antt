@@ -21,8 +21,8 @@ use Rattle.writing.proofs.Puts.{over-front, over-length}
 use Rattle.rooms.specs.Layout.{workByte, overwritten}
 use Rattle.rooms.specs.Run.{performed, Gives}
 use Rattle.runner.specs.Run.{runOf}
-use Rattle.runner.specs.Promises.{Roomy, Promised, Alike}
-use Rattle.rows.proofs.Answers.{tally-most}
+use Rattle.runner.proofs.Promises.{Roomy, Promised, SameRun}
+use Rattle.rows.proofs.Tallies.{tally-most}
 use Rattle.rooms.proofs.Layouts.{over-past, overwritten-past, overwritten-length, overwritten-taken, joined-is}
 use Rattle.rooms.proofs.Outcomes.{leaves-all}
 use Rattle.runner.proofs.Files.{runs-as}
@@ -61,13 +61,13 @@ module _ (d : View) (os : List Operation) where
         work-stays = (overwritten-length (workByte (small .row) d os) (roomBytes (small .row) * length os) work (room .for-steps), overwritten-past (workByte (small .row) d os) (roomBytes (small .row) * length os) work);
       }
 
-  pub performed-alike : {out work out′ work′ : List ℕ} → Roomy d os out work → Roomy d os out′ work′ → Alike (length os) (performed d os out work) (performed d os out′ work′)
+  pub performed-alike : {out work out′ work′ : List ℕ} → Roomy d os out work → Roomy d os out′ work′ → SameRun (length os) (performed d os out work) (performed d os out′ work′)
   performed-alike {out} {work} {out′} {work′} room room′ =
-      rw (performed-given room, performed-given room′) record {
-        answers = refl;
-        nodes = over-front (answer d os) out ∙ sym (over-front (answer d os) out′);
-        rooms = overwritten-taken (workByte (small .row) d os) (roomBytes (small .row) * length os) work ∙ sym (overwritten-taken (workByte (small .row) d os) (roomBytes (small .row) * length os) work′);
-      }
+      rw (performed-given room, performed-given room′) (
+        refl,
+        over-front (answer d os) out ∙ sym (over-front (answer d os) out′),
+        overwritten-taken (workByte (small .row) d os) (roomBytes (small .row) * length os) work ∙ sym (overwritten-taken (workByte (small .row) d os) (roomBytes (small .row) * length os) work′),
+      )
 
 -- The same of a run on files that are accepted.
 module _ (gra edg rel : List ℕ) {g : Graph} {es : List Element} {os : List Operation} {l m n : ℕ} (e : graphFile gra 0 ≡ got g l) (f : tablesFile elementLimit g edg 0 ≡ got es m)
@@ -79,6 +79,6 @@ module _ (gra edg rel : List ℕ) {g : Graph} {es : List Element} {os : List Ope
 
   -- The outcome is the same whatever the lent buffers held.
   pub run-does-not-depend-on-buffers : {out work out′ work′ : List ℕ} → Roomy (view es) os out work → Roomy (view es) os out′ work′
-      → Alike (length os) (runOf gra edg rel out work) (runOf gra edg rel out′ work′)
+      → SameRun (length os) (runOf gra edg rel out work) (runOf gra edg rel out′ work′)
   run-does-not-depend-on-buffers {out} {work} {out′} {work′} room room′ =
       rw (runs-as gra edg rel out work e f h, runs-as gra edg rel out′ work′ e f h) (performed-alike (view es) os room room′)

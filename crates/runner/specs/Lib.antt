@@ -1,3 +1,2 @@
--- A run over files, and what is promised of it.
+-- A run over files.
 pub mod Run
-pub mod Promises

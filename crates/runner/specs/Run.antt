@@ -5,14 +5,14 @@ use Rattle.meaning.specs.declared.Element.{Element}
 use Rattle.meaning.specs.declared.Graph.{Graph}
 use Rattle.meaning.specs.declared.Operation.{Operation}
 use Rattle.meaning.specs.Documents.{View, view}
-use Rattle.fields.specs.Read.{Read, got, refused}
-use Rattle.files.specs.Files.{mapped, tablesThenProgram}
-use Rattle.rooms.specs.Run.{Ran, untouched, performed}
+use Rattle.fields.specs.Read.{Read, got, refused, mapped}
+use Rattle.files.specs.Files.{tablesThenProgram}
+use Rattle.rooms.specs.Run.{Ran, bothUntouched, performed}
 
 -- the view and the program, if nothing was turned away before
 unfoldable pub ran : Read (View × List Operation) → List ℕ → List ℕ → Ran
 ran (got (d, os) at) out work = performed d os out work
-ran (refused r) out work = untouched r out work
+ran (refused r) out work = bothUntouched r out work
 
 -- what a document shows, and the program over it
 abbrev pub toRun : Graph × (List Element × List Operation) → View × List Operation

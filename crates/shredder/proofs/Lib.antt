@@ -1,4 +1,4 @@
 -- The laws behind the shredder.
 pub mod Rows
 pub mod Tables
-pub mod Answers
+pub mod Whole

@@ -12,12 +12,12 @@ use borrow.Author.Needs.{needs}
 use borrow.Author.Tests.{eq-eqb, ne-eqb}
 use Rattle.meaning.specs.declared.Element.{Element}
 use Rattle.meaning.specs.Documents.{documentNode, node}
-use Rattle.elements.specs.Kept.{keptIn}
-use Rattle.elements.proofs.Kept.{held-room}
+use Rattle.elements.specs.inside.Packing.{keptIn}
+use Rattle.elements.proofs.Packing.{held-room}
 use Rattle.fields.specs.Read.{pick}
 use Rattle.edg.specs.declared.Row.{Row}
 use Rattle.edg.specs.Edg.{rowsOf, rowBytes, rowsBytes}
-use Rattle.writing.specs.Put.{Put}
+use Rattle.writing.specs.inside.Put.{Put}
 use Rattle.writing.proofs.Puts.{put-nothing, put-bytes-word}
 use Rattle.writing.proofs.Toward.{Toward, toward-none, toward-room, toward-more, toward-all}
 

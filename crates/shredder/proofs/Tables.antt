@@ -10,16 +10,16 @@ use lib.Dec.{eqb}
 use lib.ListN.{length}
 use borrow.Author.Needs.{needs}
 use Rattle.meaning.specs.declared.Element.{Element}
-use Rattle.elements.specs.Kept.{keptIn}
+use Rattle.elements.specs.inside.Packing.{keptIn}
 use Rattle.fields.specs.Read.{pick}
 use Rattle.fields.specs.Write.{byteOf}
 use Rattle.edg.specs.declared.Row.{Row}
 use Rattle.edg.specs.Edg.{rowsOf, rowsBytes, tableBytes, tablesOf}
 use Rattle.edg.proofs.Rows.{rows-length}
-use Rattle.writing.specs.Put.{Put}
+use Rattle.writing.specs.inside.Put.{Put}
 use Rattle.writing.proofs.Puts.{put-before}
 use Rattle.writing.proofs.Toward.{Toward, toward-none, toward-room, toward-more, toward-all}
-use Rattle.shredder.specs.Shred.{Writable}
+use Rattle.shredder.specs.inside.RowsFit.{RowsFit}
 
 -- no more rows than elements
 rows-most : (t i : ℕ) (es : List Element) → length (rowsOf t i es) ≤ length es
@@ -32,7 +32,7 @@ rows-most t i (e ∷ es) = go (rows-most t (suc i) es) (eqb (e .kind) t)
     go more false = omega arith
 
 -- The rows are written behind the place of their count, and show it.
-module _ (t at : ℕ) {kept : List ℕ} {count : ℕ} {old : List ℕ} (start : Writable kept count (rowsBytes (rowsOf t 1 (keptIn kept count))) (at + 1) old) where
+module _ (t at : ℕ) {kept : List ℕ} {count : ℕ} {old : List ℕ} (start : RowsFit kept count (rowsBytes (rowsOf t 1 (keptIn kept count))) (at + 1) old) where
   abbrev rows : List Row
   rows = rowsOf t 1 (keptIn kept count)
 
@@ -57,8 +57,8 @@ module _ (es : List Element) (k t : ℕ) where
   unfolding tablesOf
   tables-last l = let left : k - t ≡ 0 = omega arith in rw left
 
-pub table-fits : {kept : List ℕ} {count k t at next : ℕ} {old new : List ℕ} → Writable kept count (tablesOf (keptIn kept count) 0 k) at old
-    → Toward at (tablesOf (keptIn kept count) 0 k) old next (tablesOf (keptIn kept count) t (k - t)) new → t < k → Writable kept count (rowsBytes (rowsOf t 1 (keptIn kept count))) (next + 1) new
+pub table-fits : {kept : List ℕ} {count k t at next : ℕ} {old new : List ℕ} → RowsFit kept count (tablesOf (keptIn kept count) 0 k) at old
+    → Toward at (tablesOf (keptIn kept count) 0 k) old next (tablesOf (keptIn kept count) t (k - t)) new → t < k → RowsFit kept count (rowsBytes (rowsOf t 1 (keptIn kept count))) (next + 1) new
 unfolding tableBytes
 table-fits {kept} {count} {k} {t} start so-far l =
     let es = keptIn kept count in

@@ -1,2 +1,2 @@
--- What the shredder needs and writes.
-pub mod Shred
+-- The tables of elements, as bytes.
+pub mod inside

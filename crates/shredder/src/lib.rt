@@ -2,11 +2,11 @@
 ghost use Prim.Native.Nat.{_+_, _≤_};
 ghost use mathlib.Core.List.{[], _∷_};
 ghost use lib.ListN.{length};
-ghost use Rattle.elements.specs.Kept.{keptIn};
+ghost use Rattle.elements.specs.inside.Packing.{keptIn};
 ghost use Rattle.edg.specs.Edg.{rowsOf, rowBytes, rowsBytes, tableBytes, tablesOf, tablesBytes};
 ghost use Rattle.writing.specs.Lent.{Leaves, stored};
-ghost use Rattle.writing.specs.Put.{Put};
-ghost use Rattle.shredder.specs.Shred.{HeldUnder, Writable};
+ghost use Rattle.writing.specs.inside.Put.{Put};
+ghost use Rattle.shredder.specs.inside.RowsFit.{HeldUnder, RowsFit};
 use meaning::Answer;
 use meaning::Element;
 use meaning::Graph;
@@ -34,7 +34,7 @@ fn write_row_of(t: u8, element: Element, number: u8, out: &mut [u8], at: usize) 
 
 // The rows of type t, in document order.
 fn write_rows(t: u8, kept: &[u32], count: usize, out: &mut [u8], at: usize) -> usize
-    requires { ⌜ Writable (now kept) count (rowsBytes (rowsOf t 1 (keptIn (now kept) count))) at (now out) ⌝ }
+    requires { ⌜ RowsFit (now kept) count (rowsBytes (rowsOf t 1 (keptIn (now kept) count))) at (now out) ⌝ }
     ensures { λ r. ⌜ Put at (rowsBytes (rowsOf t 1 (keptIn (now (kept .entry)) count))) (now (out .entry)) (now (out .exit)) r ⌝ }
 {
     let all = numbers::usize_to_u8(count);
@@ -49,7 +49,7 @@ fn write_rows(t: u8, kept: &[u32], count: usize, out: &mut [u8], at: usize) -> u
 
 // How many rows there are stands before them, and shows when they are written: each takes four bytes.
 fn write_table(t: u8, kept: &[u32], count: usize, out: &mut [u8], at: usize) -> usize
-    requires { ⌜ Writable (now kept) count (rowsBytes (rowsOf t 1 (keptIn (now kept) count))) (at + 1) (now out) ⌝ }
+    requires { ⌜ RowsFit (now kept) count (rowsBytes (rowsOf t 1 (keptIn (now kept) count))) (at + 1) (now out) ⌝ }
     ensures { λ r. ⌜ Put at (tableBytes (rowsOf t 1 (keptIn (now (kept .entry)) count))) (now (out .entry)) (now (out .exit)) r ⌝ }
 {
     let rows = at + 1;
@@ -60,7 +60,7 @@ fn write_table(t: u8, kept: &[u32], count: usize, out: &mut [u8], at: usize) -> 
 
 // The tables of k types, in order.
 fn write_tables(k: u8, kept: &[u32], count: usize, out: &mut [u8], at: usize) -> usize
-    requires { ⌜ Writable (now kept) count (tablesOf (keptIn (now kept) count) 0 k) at (now out) ⌝ }
+    requires { ⌜ RowsFit (now kept) count (tablesOf (keptIn (now kept) count) 0 k) at (now out) ⌝ }
     ensures { λ r. ⌜ Put at (tablesOf (keptIn (now (kept .entry)) count) 0 k) (now (out .entry)) (now (out .exit)) r ⌝ }
 {
     let mut next = at;

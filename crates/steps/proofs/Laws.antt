@@ -15,11 +15,11 @@ use Rattle.rel.specs.declared.StepBytes.{StepBytes}
 use Rattle.rel.specs.Rel.{stepBytes, stepsBytes}
 use Rattle.rel.proofs.Encoded.{steps-length}
 use Rattle.writing.specs.Lent.{over}
-use Rattle.writing.specs.Put.{Put}
+use Rattle.writing.specs.inside.Put.{Put}
 use Rattle.writing.proofs.Puts.{over-more, put-then, put-length}
 use Rattle.steps.specs.declared.Place.{Place}
 use Rattle.steps.specs.declared.Operator.{Operator}
-use Rattle.steps.specs.Writes.{applied, onto, Holds, Writes, Goes, Room}
+use Rattle.steps.specs.inside.Writes.{applied, onto, Holds, WritesSteps, Goes, StepsFit}
 
 steps-more : (os : List Operation) (o : Operation) → stepsBytes (os ++ (o ∷ [])) ≡ stepsBytes os ++ stepBytes o
 unfolding stepsBytes
@@ -27,7 +27,7 @@ steps-more [] o = append-nil (stepBytes o)
 steps-more (p ∷ os) o = ap (λ l. stepBytes p ++ l) (steps-more os o) ∙ sym (append-assoc (stepBytes p) (stepsBytes os) (stepBytes o))
 
 -- One step.
-step-writes : (o : Operation) (n : ℕ) {old new : List ℕ} → new ≡ over (6 + 3 * n) (stepBytes o) old → Writes (step o) n (n + 1) old new
+step-writes : (o : Operation) (n : ℕ) {old new : List ℕ} → new ≡ over (6 + 3 * n) (stepBytes o) old → WritesSteps (step o) n (n + 1) old new
 unfolding step
 step-writes o n {old} {new} e = record {
   writes = λ base os h. record {
@@ -43,7 +43,7 @@ step-writes o n {old} {new} e = record {
 }
 
 -- What add writes, a byte behind the other.
-pub add-goes : (o : Operation) (b : StepBytes) {w i j k : ℕ} {old x y new : List ℕ} {from : Place} → Room 1 (length old) (from .steps)
+pub add-goes : (o : Operation) (b : StepBytes) {w i j k : ℕ} {old x y new : List ℕ} {from : Place} → StepsFit 1 (length old) (from .steps)
     → (b .0) ∷ (b .1) ∷ (b .2) ∷ [] ≡ stepBytes o → w ≡ from .steps
     → Put (6 + 3 * w) (byteOf (b .0)) old x i → Put i (byteOf (b .1)) x y j → Put j (byteOf (b .2)) y new k
     → Goes (step o) 1 (from .kinds) (from .at) old new (from .steps) (record { kinds = from .kinds; at = from .at; steps = from .steps + 1 })
@@ -127,7 +127,7 @@ below-goes types p q r =
     record { writes = s .writes; steps = s .steps; kinds = refl; at = s .at ∙ q .at ∙ p .at; same = s .same }
 
 -- room for some of the steps that there is room for
-pub room-less : {m n room o from to : ℕ} → Room m room from → to + n ≤ from + m → o ≡ room → Room n o to
+pub room-less : {m n room o from to : ℕ} → StepsFit m room from → to + n ≤ from + m → o ≡ room → StepsFit n o to
 room-less r l e = record { few = omega (arith, r .few); fits = omega (arith, r .fits) }
 
 pub ruleset writers = (applied-as, add-goes, table-goes, combine-goes, itself-goes, closed-goes, below-goes, needs)

@@ -5,7 +5,7 @@ ghost use lib.Bits.{bitOr};
 ghost use lib.ListN.{length};
 ghost use Rattle.meaning.specs.declared.Operation.the-variants.{Table, Itself, Join, Closure};
 ghost use Rattle.meaning.specs.Translation.{step, then, descend};
-ghost use Rattle.steps.specs.Writes.{applied, onto, Goes, Room, Masked, Behind, Below};
+ghost use Rattle.steps.specs.inside.Writes.{applied, onto, Goes, StepsFit, Masked, Behind, Descending};
 use meaning::Operation;
 
 // Where the descent is: the kinds there, the query's next byte, and how many steps the program has so far. It goes by value
@@ -49,7 +49,7 @@ fn last(place: Place) -> u8
 
 // Writes an operation as the next step.
 pub fn add(from: Place, operation: Operation, out: &mut [u8]) -> Place
-    requires { ⌜ Room 1 (length (now out)) (from .steps) ⌝ }
+    requires { ⌜ StepsFit 1 (length (now out)) (from .steps) ⌝ }
     ensures { λ r. ⌜ Goes (step operation) 1 (from .kinds) (from .at) (now (out .entry)) (now (out .exit)) (from .steps) r ⌝ }
 {
     let bytes = rel::step_bytes(operation);
@@ -99,10 +99,10 @@ fn closed(types: u32, from: Place, out: &mut [u8]) -> Place
     combine(Operator::Closure, tabled, tabled, out)
 }
 
-// Behind the left part of //, from whose kinds these types are reachable: TABLE with them; LFP; SELF; UNION of LFP and SELF;
-// JOIN of the left part and that. The kinds are then the left part's and those types.
+// Behind the left part of //, from whose kinds these types are reachable: the children of these types, closed, or the node
+// itself, and the left part joined with that. The kinds are then the left part's and those types.
 pub fn below(types: u32, left: Place, out: &mut [u8]) -> Place
-    requires { ⌜ Below types (length (now out)) left ⌝ }
+    requires { ⌜ Descending types (length (now out)) left ⌝ }
     ensures { λ r. ⌜ Goes (onto Join (descend types)) 5 (bitOr (left .kinds) types) (left .at) (now (out .entry)) (now (out .exit)) (left .steps) r ⌝ }
 {
     let closed = closed(types, left, out);

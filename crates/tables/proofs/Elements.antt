@@ -16,17 +16,18 @@ use Rattle.meaning.specs.declared.Refusal.{Refusal}
 use Rattle.meaning.specs.Graphs.{childKind}
 use Rattle.meaning.specs.Documents.{isElement, above, below, node, view, parentRule, edgeRule}
 use Rattle.meaning.proofs.Tests.{same, and-in, fails}
-use Rattle.fields.specs.Read.{Read, got, readOf, passed}
+use Rattle.fields.specs.inside.Outcomes.{readOf, passed}
+use Rattle.fields.specs.Read.{Read, got}
 use Rattle.fields.specs.declared.Cursor.{Cursor}
 use Rattle.fields.specs.declared.Field.{Field}
 use Rattle.fields.specs.declared.Field.the-variants.{Got, Refused}
 use Rattle.fields.proofs.Laws.{taken-passed, handed-passed}
-use Rattle.elements.specs.Kept.{keptIn}
-use Rattle.elements.proofs.Kept.{held-long}
+use Rattle.elements.specs.inside.Packing.{keptIn}
+use Rattle.elements.proofs.Packing.{held-long}
 use Rattle.fields.proofs.Formats.{bind-out, judge-out}
 use Rattle.edg.specs.Edg.{ones, judgeHere, elementJudged, elementsJudged}
 use Rattle.edg.proofs.Numbers.{ones-out}
-use Rattle.tables.specs.Kept.{Climbable}
+use Rattle.tables.specs.inside.Gathered.{Climbable}
 
 -- each number below n came once
 module _ (f : ℕ → ℕ) where

@@ -10,12 +10,12 @@ use borrow.Author.Needs.{needs}
 use Rattle.meaning.specs.declared.Element.{Element}
 use Rattle.meaning.specs.Limits.{elementLimit}
 use Rattle.meaning.specs.Documents.{documentNode, node}
-use Rattle.elements.specs.Kept.{elementIn, keptIn, blankPlaces}
-use Rattle.elements.proofs.Kept.{map-set}
+use Rattle.elements.specs.inside.Packing.{elementIn, keptIn, blankPlaces}
+use Rattle.elements.proofs.Packing.{map-set}
 use Rattle.edg.specs.declared.Row.{Row}
-use Rattle.edg.specs.Edg.{GoodRow}
+use Rattle.edg.specs.inside.GoodRow.{GoodRow}
 use Rattle.edg.proofs.Lists.{set-keeps, take-keeps, same-anywhere}
-use Rattle.tables.specs.Kept.{Gathered, gatheredIn, none, put, Sound, Climbable}
+use Rattle.tables.specs.inside.Gathered.{Gathered, gatheredIn, none, put, Sound, Climbable}
 
 -- the places before the first row
 pub blank-none : (kept : List ℕ) → kept ≡ blankPlaces elementLimit → gatheredIn kept (replicate elementLimit 0) 0 ≡ none

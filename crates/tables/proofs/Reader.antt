@@ -19,52 +19,53 @@ use Rattle.meaning.specs.declared.Reason.the-variants.{Bound, Number}
 use Rattle.meaning.specs.declared.Refusal.{Refusal}
 use Rattle.meaning.specs.Limits.{elementLimit}
 use Rattle.meaning.specs.Documents.{documentNode}
-use Rattle.fields.specs.Read.{Read, got, refused, bind, judge, answered, refusalOf, readOf, passed, beside, pick, end}
-use Rattle.fields.specs.Outcomes.{outcomeOf}
+use Rattle.fields.specs.Read.{Read, got, refused, bind, judge, refusalOf, pick, end, mapped}
+use Rattle.fields.specs.inside.Outcomes.{outcomeOf, readOf, answered, passed, beside}
 use Rattle.fields.specs.declared.Cursor.{Cursor}
 use Rattle.fields.specs.declared.Field.{Field}
 use Rattle.fields.specs.declared.Field.the-variants.{Got, Refused}
 use Rattle.fields.proofs.Laws.{taken, handed, taken-passed, handed-passed, beside-got, beside-refused}
 use Rattle.elements.specs.declared.ElementsRead.{ElementsRead}
-use Rattle.elements.specs.Kept.{elementIn, keptIn, Keeps}
-use Rattle.elements.proofs.Kept.{keeps-none, keeps-all}
+use Rattle.elements.specs.inside.Packing.{elementIn, keptIn, Keeps}
+use Rattle.elements.proofs.Packing.{keeps-none, keeps-all}
 use Rattle.edg.specs.declared.Row.{Row}
-use Rattle.edg.specs.Edg.{tablesRead, head, rowsFile, count, times, ones, placed, elementsOf, elementJudged, elementsJudged, whole, tablesFile, GoodRow}
+use Rattle.edg.specs.inside.GoodRow.{GoodRow}
+use Rattle.edg.specs.Edg.{tablesRead, head, rowsFile, count, times, ones, placed, elementsOf, elementJudged, elementsJudged, whole, tablesFile}
 use Rattle.edg.proofs.Lists.{either, All, all-none, all-more, same-anywhere}
 use Rattle.edg.proofs.File.{rows-good}
-use Rattle.tables.specs.Kept.{mapped, Gathered, gatheredIn, none, put, added, Answers}
+use Rattle.tables.specs.inside.Gathered.{Gathered, gatheredIn, none, put, putAll, GatheredRead}
 use Rattle.tables.proofs.Places.{blank-none, none-sound, climbable, place-laws}
 use Rattle.tables.proofs.Tables.{mapped-refused, mapped-got, turned-away, added-total}
 
 -- header, k and the tables
 module _ (k : ℕ) (s : List ℕ) {x : Field} (p : readOf x ≡ head k s 0) where
-  pub rows-unheaded : {c : Gathered} {r : Refusal} → c ≡ none → x ≡ Refused r → Answers x c (mapped (added none) (rowsFile elementLimit k s 0))
+  pub rows-unheaded : {c : Gathered} {r : Refusal} → c ≡ none → x ≡ Refused r → GatheredRead x c (mapped (putAll none) (rowsFile elementLimit k s 0))
   unfolding mapped rowsFile
   rows-unheaded n q = turned-away (none-sound n) q (simp (handed p q))
 
-  module _ {v : ℕ} {after : Cursor} (q : x ≡ Got v after) {t : Field} {d : Gathered} (w : Answers t d (mapped (added none) (tablesRead elementLimit 0 0 k s (after .at)))) where
-    pub rows-stopped : {r : Refusal} → t ≡ Refused r → Answers t d (mapped (added none) (rowsFile elementLimit k s 0))
+  module _ {v : ℕ} {after : Cursor} (q : x ≡ Got v after) {t : Field} {d : Gathered} (w : GatheredRead t d (mapped (putAll none) (tablesRead elementLimit 0 0 k s (after .at)))) where
+    pub rows-stopped : {r : Refusal} → t ≡ Refused r → GatheredRead t d (mapped (putAll none) (rowsFile elementLimit k s 0))
     unfolding mapped rowsFile
-    rows-stopped j = turned-away (w .sound) j (simp (taken p q, mapped-refused (added none) (tablesRead elementLimit 0 0 k s (after .at)) (beside-refused d (w .right) j)))
+    rows-stopped j = turned-away (w .sound) j (simp (taken p q, mapped-refused (putAll none) (tablesRead elementLimit 0 0 k s (after .at)) (beside-refused d (w .right) j)))
 
     pub rows-told : {m : ℕ} {last : Cursor} {u : Field} → t ≡ Got m last → u ≡ answered (leb 1 (d .total)) (Got m last) (refusalOf Bound (last .at))
-        → Answers u d (mapped (added none) (rowsFile elementLimit k s 0))
+        → GatheredRead u d (mapped (putAll none) (rowsFile elementLimit k s 0))
     unfolding mapped rowsFile answered none
     rows-told {m} {last} j l =
-        let (rs, i, kept) = mapped-got (added none) (tablesRead elementLimit 0 0 k s (after .at)) (beside-got d (w .right) j) in
+        let (rs, i, kept) = mapped-got (putAll none) (tablesRead elementLimit 0 0 k s (after .at)) (beside-got d (w .right) j) in
         let long : d .total ≡ length rs = omega (arith, added-total none rs, ap (λ (c : Gathered). c .total) kept) in
         record { sound = w .sound; right = rw l (go rs kept (leb 1 (d .total)) ∙ simp (taken p q, i, ← long)) }
       where
-        go : (rs : List Row) → added none rs ≡ d → (b : Bool)
-            → beside (answered b (Got m last) (refusalOf Bound (last .at))) d ≡ mapped (added none) (bind (judge (last .at) b Bound s (last .at)) (λ _ at. got rs at))
+        go : (rs : List Row) → putAll none rs ≡ d → (b : Bool)
+            → beside (answered b (Got m last) (refusalOf Bound (last .at))) d ≡ mapped (putAll none) (bind (judge (last .at) b Bound s (last .at)) (λ _ at. got rs at))
         go rs kept true = rw kept
         go rs kept false = refl
 
 pub ruleset rows-laws = (place-laws, rows-unheaded, rows-stopped, rows-told, needs)
 
 -- what is kept of rows
-added-elements : (c : Gathered) (rs : List Row) → added c rs .elements ≡ placed (c .elements) rs
-unfolding added placed put
+added-elements : (c : Gathered) (rs : List Row) → putAll c rs .elements ≡ placed (c .elements) rs
+unfolding putAll placed put
 added-elements c [] = refl
 added-elements c (r ∷ rs) = added-elements (put c r) rs
 
@@ -79,8 +80,8 @@ put-times c r good long i =
     (λ q. rw q (getD-set-other (c .times) (r .number - 1) i _ 0 (λ e. eqb-false (r .number) (suc i) q (omega arith)) ∙ sym (add-zero _)))
 
 added-times : (c : Gathered) {rs : List Row} → All (GoodRow elementLimit) rs → length (c .times) ≡ elementLimit → (i : ℕ)
-    → getD (added c rs .times) i 0 ≡ getD (c .times) i 0 + times (suc i) rs
-unfolding added count put
+    → getD (putAll c rs .times) i 0 ≡ getD (c .times) i 0 + times (suc i) rs
+unfolding putAll count put
 added-times c all-none long i = sym (add-zero _)
 added-times c (all-more {r} {rs} good more) long i =
     added-times (put c r) more (length-set (c .times) (r .number - 1) _ ∙ long) i ∙ omega (arith, put-times c r good long i)
@@ -90,7 +91,7 @@ record Holds (kept came : List ℕ) (total : ℕ) (rs : List Row) : Type 0 where
   elements : keptIn kept total ≡ elementsOf elementLimit rs
   once : ones total (λ i. getD came i 0) ≡ ones (length rs) (λ i. times (suc i) rs)
 
-holds-rows : (kept came : List ℕ) (total : ℕ) {rs : List Row} → All (GoodRow elementLimit) rs → added none rs ≡ gatheredIn kept came total → Holds kept came total rs
+holds-rows : (kept came : List ℕ) (total : ℕ) {rs : List Row} → All (GoodRow elementLimit) rs → putAll none rs ≡ gatheredIn kept came total → Holds kept came total rs
 unfolding none keptIn elementsOf
 holds-rows kept came total {rs} good e =
     let long : total ≡ length rs = omega (arith, ap (λ (c : Gathered). c .total) e, added-total none rs) in
@@ -110,18 +111,18 @@ holds-judged : (g : Graph) (s : List ℕ) (at : ℕ) {kept came : List ℕ} {tot
 holds-judged g s at {rs = rs} holds = rw (holds .elements, holds .count) (judged-anywhere g (elementsOf elementLimit rs) s 1 (length rs) at)
 
 module _ (g : Graph) (s : List ℕ) (bytes : (i : ℕ) → Fits w8 (getD s i 0)) (kept came : List ℕ) (total : ℕ)
-    {x : Field} (t : Answers x (gatheredIn kept came total) (mapped (added none) (rowsFile elementLimit (g .k) s 0))) where
+    {x : Field} (t : GatheredRead x (gatheredIn kept came total) (mapped (putAll none) (rowsFile elementLimit (g .k) s 0))) where
   abbrev file : Read (List Element)
   file = tablesFile elementLimit g s 0
 
   pub read-refused : {y : ElementsRead} {r : Refusal} → y ≡ record { outcome = outcomeOf (readOf x); count = 0 } → x ≡ Refused r → Keeps file kept y
   unfolding tablesFile
-  read-refused h q = keeps-none kept h q (simp (mapped-refused (added none) (rowsFile elementLimit (g .k) s 0) (beside-refused (gatheredIn kept came total) (t .right) q)))
+  read-refused h q = keeps-none kept h q (simp (mapped-refused (putAll none) (rowsFile elementLimit (g .k) s 0) (beside-refused (gatheredIn kept came total) (t .right) q)))
 
   module _ {v : ℕ} {last : Cursor} (q : x ≡ Got v last) where
     found : (rs : List Row) × (rowsFile elementLimit (g .k) s 0 ≡ got rs (last .at)) × Holds kept came total rs
     found =
-        let (rs, i, same) = mapped-got (added none) (rowsFile elementLimit (g .k) s 0) (beside-got (gatheredIn kept came total) (t .right) q) in
+        let (rs, i, same) = mapped-got (putAll none) (rowsFile elementLimit (g .k) s 0) (beside-got (gatheredIn kept came total) (t .right) q) in
         (rs, i, holds-rows kept came total (rows-good elementLimit (g .k) s (λ j. bytes j .fits) i) same)
 
     module _ {f : Field} (h : readOf f ≡ passed (end s (last .at))) where

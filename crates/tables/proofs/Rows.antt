@@ -12,7 +12,8 @@ use borrow.Author.Needs.{needs}
 use Rattle.meaning.specs.declared.Reason.the-variants.{Ended, Bound, Number}
 use Rattle.meaning.specs.declared.Refusal.{Refusal}
 use Rattle.meaning.specs.Limits.{elementLimit}
-use Rattle.fields.specs.Read.{got, answered, refusalOf, judged, readOf, beside, byte, word, header}
+use Rattle.fields.specs.inside.Outcomes.{readOf, answered, beside}
+use Rattle.fields.specs.Read.{got, refusalOf, judged, byte, word, header}
 use Rattle.fields.specs.declared.Cursor.{Cursor}
 use Rattle.fields.specs.declared.Field.{Field}
 use Rattle.fields.specs.declared.Field.the-variants.{Got, Refused}

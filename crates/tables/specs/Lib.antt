@@ -1,2 +1,1 @@
--- What the functions of the reader of tables files promise each other.
-pub mod Kept
+pub mod inside

@@ -7,10 +7,12 @@ ghost use lib.Dec.{eqb, ltb};
 ghost use lib.ListN.{length, getD};
 ghost use Rattle.meaning.specs.Limits.{elementLimit};
 ghost use Rattle.meaning.specs.Documents.{view, below, parentRule, edgeRule};
-ghost use Rattle.fields.specs.Read.{readOf, passed, beside};
-ghost use Rattle.elements.specs.Kept.{keptIn, blankPlaces, Keeps};
-ghost use Rattle.edg.specs.Edg.{rowRule, rowRead, rowsRead, countRead, tablesRead, head, rowsFile, ones, elementJudged, elementsJudged, tablesFile, GoodRow};
-ghost use Rattle.tables.specs.Kept.{rowLength, mapped, gatheredIn, none, put, added, Sound, Answers, Climbable};
+ghost use Rattle.fields.specs.inside.Outcomes.{readOf, passed, beside};
+ghost use Rattle.fields.specs.Read.{mapped};
+ghost use Rattle.elements.specs.inside.Packing.{keptIn, blankPlaces, Keeps};
+ghost use Rattle.edg.specs.inside.GoodRow.{GoodRow};
+ghost use Rattle.edg.specs.Edg.{rowRule, rowRead, rowsRead, countRead, tablesRead, head, rowsFile, ones, elementJudged, elementsJudged, tablesFile};
+ghost use Rattle.tables.specs.inside.Gathered.{rowLength, gatheredIn, none, put, putAll, Sound, GatheredRead, Climbable};
 use edg::Row;
 use elements::DOCUMENT_NODE;
 use elements::ElementsRead;
@@ -107,7 +109,7 @@ fn read_table(
     before: usize,
 ) -> TotalRead
     requires { ⌜ Sound (gatheredIn (now kept) (now times) before) × (before + count ≤ elementLimit) ⌝ }
-    ensures { λ r. ⌜ Answers (r .next) (gatheredIn (now (kept .exit)) (now (times .exit)) (r .total)) (mapped (added (gatheredIn (now (kept .entry)) (now (times .entry)) before)) (rowsRead elementLimit kind 0 count (now (part .entry)) 0)) ⌝ }
+    ensures { λ r. ⌜ GatheredRead (r .next) (gatheredIn (now (kept .exit)) (now (times .exit)) (r .total)) (mapped (putAll (gatheredIn (now (kept .entry)) (now (times .entry)) before)) (rowsRead elementLimit kind 0 count (now (part .entry)) 0)) ⌝ }
 {
     let mut total = before;
     let mut cursor = Cursor::start();
@@ -160,7 +162,7 @@ fn stretch_end(s: &[u8], a: usize, count: u16) -> usize
 
 fn read_tables(s: &[u8], start: Cursor, k: u8, kept: &mut [u32], times: &mut [u8]) -> TotalRead
     requires { ⌜ gatheredIn (now kept) (now times) 0 ≡ none ⌝ }
-    ensures { λ r. ⌜ Answers (r .next) (gatheredIn (now (kept .exit)) (now (times .exit)) (r .total)) (mapped (added none) (tablesRead elementLimit 0 0 k (now (s .entry)) (start .at))) ⌝ }
+    ensures { λ r. ⌜ GatheredRead (r .next) (gatheredIn (now (kept .exit)) (now (times .exit)) (r .total)) (mapped (putAll none) (tablesRead elementLimit 0 0 k (now (s .entry)) (start .at))) ⌝ }
 {
     let mut total: usize = 0;
     let mut cursor = start;
@@ -203,7 +205,7 @@ fn read_head(s: &[u8], k: u8) -> Field
 // Header, k and the tables.
 fn read_rows(s: &[u8], k: u8, kept: &mut [u32], times: &mut [u8]) -> TotalRead
     requires { ⌜ gatheredIn (now kept) (now times) 0 ≡ none ⌝ }
-    ensures { λ r. ⌜ Answers (r .next) (gatheredIn (now (kept .exit)) (now (times .exit)) (r .total)) (mapped (added none) (rowsFile elementLimit k (now (s .entry)) 0)) ⌝ }
+    ensures { λ r. ⌜ GatheredRead (r .next) (gatheredIn (now (kept .exit)) (now (times .exit)) (r .total)) (mapped (putAll none) (rowsFile elementLimit k (now (s .entry)) 0)) ⌝ }
 {
     let next = read_head(s, k);
     let Field::Got(_, after) = next else {

@@ -1,4 +1,4 @@
--- Document 01's listing, for C5, computed from the definitions; node 0's line; and a refusal.
+-- The listing of the example's query C5 (docs/RULES.md), computed from the definitions; node 0's line; and a refusal.
 use Prim.Native.Nat.{ℕ}
 use mathlib.Core.Path.{_≡_, refl}
 use mathlib.Core.List.{List, [], _∷_, _++_}

@@ -14,22 +14,22 @@ use Rattle.text.specs.Listing.{decimal, space, endOfLine, selectedWord, 
 use Rattle.text.proofs.Decimals.{few-digits}
 
 -- a number and the byte that ends its field
-abbrev pub ended : ℕ → ℕ → List ℕ
-ended n end = decimal n ++ byteOf end
+abbrev pub endedBy : ℕ → ℕ → List ℕ
+endedBy n end = decimal n ++ byteOf end
 
-pub ended-length : (n end : ℕ) → length (ended n end) ≡ length (decimal n) + 1
+pub ended-length : (n end : ℕ) → length (endedBy n end) ≡ length (decimal n) + 1
 ended-length n end = length-append (decimal n) (byteOf end)
 
 -- The line of a node, from the element that its place holds.
 abbrev pub threeFields : ℕ → ℕ → ℕ → List ℕ
-threeFields v kind text = ended v 32 ++ ended kind 32 ++ ended text 10
+threeFields v kind text = endedBy v 32 ++ endedBy kind 32 ++ endedBy text 10
 
 pub fields-length : (v kind text : ℕ) → length (threeFields v kind text) ≡ length (decimal v) + length (decimal kind) + length (decimal text) + 3
 fields-length v kind text =
     omega (
       arith,
-      length-append (ended v 32 ++ ended kind 32) (ended text 10),
-      length-append (ended v 32) (ended kind 32),
+      length-append (endedBy v 32 ++ endedBy kind 32) (endedBy text 10),
+      length-append (endedBy v 32) (endedBy kind 32),
       ended-length v 32,
       ended-length kind 32,
       ended-length text 10,

@@ -6,7 +6,7 @@ use native.Mathlib.Omega.{arith}
 use lib.ListN.{length, length-append}
 use borrow.Author.Needs.{needs}
 use Rattle.fields.specs.Write.{byteOf}
-use Rattle.writing.specs.Put.{Put}
+use Rattle.writing.specs.inside.Put.{Put}
 use Rattle.writing.proofs.Puts.{put-then, put-length}
 use Rattle.text.specs.Listing.{decimal}
 use Rattle.text.proofs.Decimals.{one-digit, last-digit}

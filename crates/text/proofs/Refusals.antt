@@ -6,10 +6,10 @@ use lib.ListN.{length}
 use borrow.Author.Needs.{needs}
 use mir.Syntax.{w8}
 use mir.Val.{Fits}
-use Rattle.writing.specs.Put.{Put}
+use Rattle.writing.specs.inside.Put.{Put}
 use Rattle.writing.proofs.Puts.{put-then, put-length}
 use Rattle.text.specs.Listing.{decimal, space, endOfLine, refusedWord, refusal}
-use Rattle.text.specs.Listable.{refusalLimit}
+use Rattle.text.specs.inside.Listable.{refusalLimit}
 use Rattle.text.proofs.Decimals.{few-digits}
 
 pub put-refused : {i after : ℕ} {old mid new : List ℕ} → 8 ≤ length old → Put 0 (0x72 ∷ 0x65 ∷ 0x66 ∷ 0x75 ∷ []) old mid i → Put i (0x73 ∷ 0x65 ∷ 0x64 ∷ 0x20 ∷ []) mid new after

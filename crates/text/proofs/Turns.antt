@@ -7,11 +7,12 @@ use lib.ListN.{length, getD, take, length-append}
 use borrow.Author.Needs.{needs}
 use Rattle.meaning.specs.declared.Element.{Element}
 use Rattle.meaning.specs.Documents.{View, view, node}
-use Rattle.writing.specs.Put.{Put}
+use Rattle.writing.specs.inside.Put.{Put}
 use Rattle.writing.proofs.Puts.{put-nothing, put-then, put-length}
 use Rattle.text.specs.Listing.{decimal, space, endOfLine, selectedWord, firstLine, line, lines, listing}
-use Rattle.text.specs.Listable.{shown, Listable}
-use Rattle.text.proofs.LineLaws.{ended, ended-length, fields-length, line-is, first-length, one-more, next-fits, listing-is}
+use Rattle.elements.specs.inside.Packing.{shown}
+use Rattle.text.specs.inside.Listable.{Listable}
+use Rattle.text.proofs.LineLaws.{endedBy, ended-length, fields-length, line-is, first-length, one-more, next-fits, listing-is}
 
 -- A node's line.
 module _ (es : List Element) (v : ℕ) {x : Element} (held : x ≡ node es v) where
@@ -24,14 +25,14 @@ module _ (es : List Element) (v : ℕ) {x : Element} (held : x ≡ node es v) wh
 
     module _ {i k : ℕ} {mid : List ℕ} (number : Put at (decimal v ++ space) old mid i) (f : k ≡ x .kind) where
       number-ends : i + length (decimal k) + length (decimal (x .text)) + 2 ≤ length mid
-      number-ends = omega (arith, long, ap (λ n. length (decimal n)) f, ended-length v 32, number .behind, put-length {bs = ended v 32} (omega (arith, number-room, ended-length v 32)) number)
+      number-ends = omega (arith, long, ap (λ n. length (decimal n)) f, ended-length v 32, number .behind, put-length {bs = endedBy v 32} (omega (arith, number-room, ended-length v 32)) number)
 
       pub kind-room : i + length (decimal k) < length mid
       kind-room = omega (arith, number-ends)
 
       module _ {j : ℕ} {last : List ℕ} (kind : Put i (decimal k ++ space) mid last j) where
         pub text-room : j + length (decimal (x .text)) < length last
-        text-room = omega (arith, number-ends, ended-length k 32, kind .behind, put-length {bs = ended k 32} (omega (arith, number-ends, ended-length k 32)) kind)
+        text-room = omega (arith, number-ends, ended-length k 32, kind .behind, put-length {bs = endedBy k 32} (omega (arith, number-ends, ended-length k 32)) kind)
 
         pub put-line : {after : ℕ} {new : List ℕ} → Put j (decimal (x .text) ++ endOfLine) last new after → Put at (line (view es) v) old new after
         put-line text = rw (line-is es v held, ← f) (put-then (omega (arith, room)) (put-then (omega (arith, room)) number kind) text)

@@ -1,3 +1,3 @@
 -- The listing's text.
 pub mod Listing
-pub mod Listable
+pub mod inside

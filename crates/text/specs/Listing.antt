@@ -1,5 +1,6 @@
--- The listing: `selected` and the count, then a line of number, type and text number for each node; or `refused` and the
--- number. Decimal numbers, one space between fields, byte 10 at the end of a line.
+-- The text of a listing. Its first line is `selected` with how many nodes follow, and each of them has a line: its number,
+-- its type, its text number. A refusal is one line, `refused` with its number. Numbers are decimal and parted by a space, and
+-- byte 10 closes a line.
 use Prim.Native.Nat.{ℕ, zero, suc, _+_, _*_, _/_, _%_}
 use mathlib.Core.List.{List, [], _∷_, _++_}
 use lib.Dec.{ltb}

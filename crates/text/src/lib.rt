@@ -4,9 +4,10 @@ ghost use mathlib.Core.List.{[], _∷_, _++_};
 ghost use Prim.Native.Nat.{_+_, _%_, _≤_, _<_};
 ghost use lib.ListN.{length, take};
 ghost use Rattle.fields.specs.Write.{byteOf};
-ghost use Rattle.writing.specs.Put.{Put};
+ghost use Rattle.writing.specs.inside.Put.{Put};
 ghost use Rattle.text.specs.Listing.{decimal, space, selectedWord, firstLine, line, lines, listing, refusedWord, refusal};
-ghost use Rattle.text.specs.Listable.{shown, Listable, refusalLimit};
+ghost use Rattle.elements.specs.inside.Packing.{shown};
+ghost use Rattle.text.specs.inside.Listable.{Listable, refusalLimit};
 use numbers::u8_to_u16;
 
 fn digit(n: u16) -> u8

@@ -14,22 +14,23 @@ use Rattle.meaning.specs.declared.Outcome.the-variants.{Accepted, Refused}
 use Rattle.meaning.specs.declared.Program.{Program}
 use Rattle.meaning.specs.declared.Refusal.{Refusal}
 use Rattle.meaning.specs.Limits.{words, queryLimit}
-use Rattle.fields.specs.Read.{Read, got, refused}
+use Rattle.fields.specs.Read.{Read, got, refused, mapped}
 use Rattle.writing.specs.Lent.{accepted, turnedAway}
 use Rattle.graph.specs.declared.GraphRead.{GraphRead}
 use Rattle.graph.specs.Gra.{graphFile}
-use Rattle.graph.specs.Answers.{graphRead}
-use Rattle.graph.proofs.Held.{graph-turned, graph-held}
-use Rattle.files.specs.Files.{mapped, documentUnder, tablesUnder, queryUnder, programUnder, Opens, OfElements, OfQuery, OfProgram}
+use Rattle.graph.specs.inside.GraphRead.{graphRead}
+use Rattle.graph.proofs.Known.{graph-turned, graph-held}
+use Rattle.files.specs.inside.Opens.{Opens, OfElements, OfQuery, OfProgram}
+use Rattle.files.specs.Files.{documentUnder, tablesUnder, queryUnder, programUnder}
 use Rattle.files.proofs.Handed.{mapped-got, mapped-refused}
 use Rattle.trammelbud.specs.Calls.{answerOf, readGraph, readDocument, readTables, readQuery, readProgram}
-use Rattle.trammelbud.specs.Parts.{answered, Countable}
+use Rattle.trammelbud.specs.inside.Parts.{answerFor, Countable}
 
 -- by how reading came out
-pub counted-accepted : {o : Outcome} {n m : ℕ} {a : Answer} → o ≡ Accepted → m ≡ n → a ≡ accepted m → a ≡ answered o n
+pub counted-accepted : {o : Outcome} {n m : ℕ} {a : Answer} → o ≡ Accepted → m ≡ n → a ≡ accepted m → a ≡ answerFor o n
 counted-accepted h q e = rw h (e ∙ ap accepted q)
 
-pub counted-refused : {o : Outcome} {a : Answer} (n : ℕ) {r : Refusal} → o ≡ Refused r → a ≡ turnedAway r → a ≡ answered o n
+pub counted-refused : {o : Outcome} {a : Answer} (n : ℕ) {r : Refusal} → o ≡ Refused r → a ≡ turnedAway r → a ≡ answerFor o n
 counted-refused n h e = rw h e
 
 pub counted-small : {o : Outcome} {n : ℕ} → Countable o n → o ≡ Accepted → n < words
@@ -39,7 +40,7 @@ pub byte-small : {o : Outcome} {m : ℕ} (n : ℕ) → Fits w8 n → m ≡ n →
 byte-small n f e = record { small = λ h. omega (arith, f .fits) }
 
 -- what is counted of a reading, f, is what stands beside its outcome
-counts : {A : Type 0} (e : Read A) (f : A → ℕ) {P : A → Type 0} (o : Outcome) {n : ℕ} → Opens e o P → ((a : A) → P a → f a ≡ n) → answered o n ≡ answerOf (mapped f e)
+counts : {A : Type 0} (e : Read A) (f : A → ℕ) {P : A → Type 0} (o : Outcome) {n : ℕ} → Opens e o P → ((a : A) → P a → f a ≡ n) → answerFor o n ≡ answerOf (mapped f e)
 unfolding answerOf
 counts e f Accepted p same = let (a, m, q, w) = p .held refl in sym (ap answerOf (mapped-got f q) ∙ ap accepted (same a w))
 counts e f (Refused r) p same = sym (ap answerOf (mapped-refused f (p .turned refl)))
@@ -48,7 +49,7 @@ module _ (gra : List ℕ) {x : GraphRead} (p : x ≡ graphRead (graphFile gra 0)
   graph-opens : Opens (graphFile gra 0) (x .outcome) (λ g. g .k ≡ x .graph .k)
   graph-opens = record { turned = λ h. graph-turned gra p h; held = λ h. let (n, e) = graph-held gra p h in (x .graph, n, e, refl) }
 
-  pub graph-counted : {a : Answer} {m : ℕ} → m ≡ x .graph .k → a ≡ answered (x .outcome) m → a ≡ readGraph gra
+  pub graph-counted : {a : Answer} {m : ℕ} → m ≡ x .graph .k → a ≡ answerFor (x .outcome) m → a ≡ readGraph gra
   unfolding readGraph
   graph-counted q e = e ∙ counts (graphFile gra 0) (λ g. g .k) (x .outcome) graph-opens λ g w. w ∙ sym q
 
@@ -60,7 +61,7 @@ module _ {o : Outcome} {g : Graph} {kept : List ℕ} {count : ℕ} where
     pub document-small : Countable o count
     document-small = elements-small p
 
-    pub document-counted : {a : Answer} → a ≡ answered o count → a ≡ readDocument gra tre
+    pub document-counted : {a : Answer} → a ≡ answerFor o count → a ≡ readDocument gra tre
     unfolding readDocument
     document-counted e = e ∙ counts (documentUnder gra tre) (λ x. length (x .1)) o p λ x w. ap length (w .elements) ∙ w .whole
 
@@ -68,11 +69,11 @@ module _ {o : Outcome} {g : Graph} {kept : List ℕ} {count : ℕ} where
     pub tables-small : Countable o count
     tables-small = elements-small p
 
-    pub tables-counted : {a : Answer} → a ≡ answered o count → a ≡ readTables gra edg
+    pub tables-counted : {a : Answer} → a ≡ answerFor o count → a ≡ readTables gra edg
     unfolding readTables
     tables-counted e = e ∙ counts (tablesUnder gra edg) (λ x. length (x .1)) o p λ x w. ap length (w .elements) ∙ w .whole
 
-pub query-counted : (gra qry : List ℕ) {o : Outcome} {g : Graph} {nodes m : ℕ} {a : Answer} → Opens (queryUnder gra qry) o (OfQuery g nodes) → m ≡ nodes → a ≡ answered o m → a ≡ readQuery gra qry
+pub query-counted : (gra qry : List ℕ) {o : Outcome} {g : Graph} {nodes m : ℕ} {a : Answer} → Opens (queryUnder gra qry) o (OfQuery g nodes) → m ≡ nodes → a ≡ answerFor o m → a ≡ readQuery gra qry
 unfolding readQuery
 query-counted gra qry {o} p q e = e ∙ counts (queryUnder gra qry) (λ x. queryLimit - x .1 .1) o p λ x w. sym (q ∙ w .counts)
 
@@ -80,7 +81,7 @@ module _ (gra rel : List ℕ) {o : Outcome} {g : Graph} {program : Program} (p :
   pub program-small : Countable o (program .count)
   program-small = record { small = λ h. let (x, n, q, w) = p .held h in omega (arith, w .lawful .most-steps, w .whole) }
 
-  pub program-counted : {a : Answer} → a ≡ answered o (program .count) → a ≡ readProgram gra rel
+  pub program-counted : {a : Answer} → a ≡ answerFor o (program .count) → a ≡ readProgram gra rel
   unfolding readProgram
   program-counted e = e ∙ counts (programUnder gra rel) (λ x. length (x .1)) o p λ x w. ap length (w .steps) ∙ w .whole
 

@@ -16,18 +16,18 @@ use Rattle.meaning.specs.declared.Reason.the-variants.{Room}
 use Rattle.meaning.specs.Limits.{small, words, elementLimit, roomBytes, types, document}
 use Rattle.meaning.specs.Documents.{view, node, isElement, documentNode}
 use Rattle.meaning.specs.Operations.{answer}
-use Rattle.meaning.specs.Records.{operationsIn}
-use Rattle.elements.specs.Kept.{keptIn}
-use Rattle.elements.proofs.Kept.{held-long}
+use Rattle.meaning.specs.inside.Records.{operationsIn}
+use Rattle.elements.specs.inside.Packing.{keptIn, shown}
+use Rattle.elements.proofs.Packing.{held-long}
 use Rattle.writing.specs.Lent.{accepted, turnedAway, over}
-use Rattle.writing.specs.Put.{Put}
+use Rattle.writing.specs.inside.Put.{Put}
 use Rattle.writing.proofs.Puts.{over-front, over-length}
 use Rattle.rooms.specs.Layout.{workByte, overwritten}
-use Rattle.rooms.specs.Ready.{shown, Ready}
+use Rattle.rooms.specs.inside.FitToRun.{FitToRun}
 use Rattle.rooms.specs.Run.{Ran, Gives, performed, leaves}
-use Rattle.runner.specs.Promises.{Roomy}
+use Rattle.runner.proofs.Promises.{Roomy}
 use Rattle.runner.proofs.Theorems.{performed-given, few-nodes, nodes-below}
-use Rattle.text.specs.Listable.{Listable}
+use Rattle.text.specs.inside.Listable.{Listable}
 use Rattle.text.specs.Listing.{listing, listingRoom}
 use Rattle.text.proofs.LineLaws.{listing-most}
 use Rattle.trammelbud.specs.Calls.{lists}
@@ -42,7 +42,7 @@ kinds-small es kinds (suc i) = go (leb (suc i) (length es)) refl
     go true e = omega (arith, kinds (suc i) (and-in e (lt-ltb 0 (suc i) (omega arith))))
     go false e = rw (List·getD-eq-default es documentNode {n = i} (omega (arith, leb-false (suc i) (length es) e))) (omega arith)
 
-module _ {kept : List ℕ} {count : ℕ} {program : Program} (r : Ready kept count program × ((v : ℕ) → shown kept count .text v < words)) where
+module _ {kept : List ℕ} {count : ℕ} {program : Program} (r : FitToRun kept count program × ((v : ℕ) → shown kept count .text v < words)) where
   abbrev nodes : List ℕ
   nodes = answer (shown kept count) (operationsIn program)
 

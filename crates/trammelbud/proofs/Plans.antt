@@ -24,41 +24,42 @@ use Rattle.meaning.specs.Limits.{words, elementLimit, stepLimit}
 use Rattle.meaning.specs.Documents.{view, Accepted}
 use Rattle.meaning.specs.Queries.{XPath, selected}
 use Rattle.meaning.specs.Operations.{answer}
-use Rattle.meaning.specs.Records.{programOf, operationsIn}
+use Rattle.meaning.specs.inside.Records.{programOf, operationsIn}
 use Rattle.meaning.specs.Translation.{translated, stepCount}
 use Rattle.meaning.proofs.Records.{program-holds}
 use Rattle.meaning.proofs.Theorems.{translation-is-right}
-use Rattle.fields.specs.Read.{Read, got, refused, bind, pick}
-use Rattle.elements.specs.Kept.{keptIn}
+use Rattle.fields.specs.Read.{Read, got, refused, bind, pick, mapped}
+use Rattle.elements.specs.inside.Packing.{keptIn, shown}
 use Rattle.query.specs.Qry.{queryFile}
 use Rattle.query.proofs.File.{query-read}
 use Rattle.edg.specs.Edg.{tablesFile}
 use Rattle.rel.specs.Rel.{programFile, programBytes}
 use Rattle.program.specs.declared.ProgramRead.{ProgramRead}
-use Rattle.program.specs.Answers.{programRead}
+use Rattle.program.specs.inside.ProgramRead.{ReadsProgram}
 use Rattle.writing.specs.Lent.{Lent, accepted, turnedAway, over, stored, lent, Leaves}
 use Rattle.writing.proofs.Puts.{over-front, over-length}
 use Rattle.writing.proofs.Stored.{stored-there}
-use Rattle.files.specs.Files.{mapped, under, then, tablesThenQuery, Opens, OfElements, OfTablesThenQuery}
+use Rattle.files.specs.inside.Opens.{Opens, OfElements, OfTablesThenQuery}
+use Rattle.files.specs.Files.{under, followedBy, tablesThenQuery}
 use Rattle.files.proofs.Handed.{under-out, then-out, mapped-got, mapped-refused}
-use Rattle.rooms.specs.Ready.{shown, Ready}
+use Rattle.rooms.specs.inside.FitToRun.{FitToRun}
 use Rattle.rooms.specs.Run.{Ran, Gives, performed}
 use Rattle.runner.proofs.Prepared.{ready}
-use Rattle.translator.specs.Ready.{Accepts}
-use Rattle.translator.specs.Translate as translate
-use Rattle.translator.specs.Translate.{translatedQuery, translatedUnder}
+use Rattle.translator.specs.inside.Translatable.{AcceptedQuery}
+use Rattle.translator.specs.Translate.{boundedProgram}
+use Rattle.translator.specs.inside.Translated.{translatedQuery, translatedUnder}
 use Rattle.translator.proofs.Checked.{file-length, Checked, translated-checked, translated-stored}
 use Rattle.trammelbud.specs.Calls.{Asked, asking, asked, askedOr, chosen, selectOf, lists, told, listOf}
-use Rattle.trammelbud.specs.Parts.{Translated, Planned}
+use Rattle.trammelbud.specs.inside.Parts.{Translated, Planned}
 
 -- A query that was accepted, by how many steps it takes.
-module _ {g : Graph} {qry : List ℕ} (A : Accepts g qry) where
+module _ {g : Graph} {qry : List ℕ} (A : AcceptedQuery g qry) where
   few-steps : stepCount (A .query) ≤ stepLimit → translatedQuery g qry ≡ got (translated g (A .query)) (A .end)
-  unfolding translatedQuery translate.programOf
+  unfolding translatedQuery boundedProgram
   few-steps few = rw (A .reads, le-leb (stepCount (A .query)) stepLimit few)
 
   many-steps : stepLimit < stepCount (A .query) → translatedQuery g qry ≡ refused (record { reason = Steps })
-  unfolding translatedQuery translate.programOf
+  unfolding translatedQuery boundedProgram
   many-steps many = rw (A .reads, lt-leb (stepCount (A .query)) stepLimit many)
 
   by-steps : {P : Type 0} → (stepCount (A .query) ≤ stepLimit → P) → (stepLimit < stepCount (A .query) → P) → P
@@ -110,16 +111,16 @@ module _ {g : Graph} {qry : List ℕ} (A : Accepts g qry) where
       pub file-taken : {n : ℕ} → n ≡ a .count → n ≡ length (take n new)
       file-taken {n} e = sym (length-take-le n new (file-inside e))
 
-      pub read-back : {n : ℕ} {y : ProgramRead} → n ≡ a .count → y ≡ programRead (programFile (g .k) (take n new) 0) → Opens (translatedQuery g qry) (y .outcome) (Translated g (y .program))
+      pub read-back : {n : ℕ} {y : ProgramRead} → n ≡ a .count → ReadsProgram y (programFile (g .k) (take n new) 0) → Opens (translatedQuery g qry) (y .outcome) (Translated g (y .program))
       unfolding programOf
       read-back {n} {y} e p =
           let os = translated g (A .query) in
           let c = translated-checked g (A .query) (A .graph) (A .legal) few in
           let again : programFile (g .k) (take n new) 0 ≡ got os (length file) = rw (e, count-is, new-is, over-front file old) (c .reads-back) in
-          let is : y ≡ record { outcome = outcome.Accepted; program = programOf os } = p ∙ rw again in
+          let is : y ≡ record { outcome = outcome.Accepted; program = programOf os } = p .is ∙ rw again in
           rw is (record {
             turned = λ q. let z : _≡_ {A = ℕ} 0 1 = cc in absurd (omega arith);
-            held = λ q. (os, A .end, few-steps few, record { steps = sym (program-holds os); lawful = rw (program-holds os) (c .legal); whole = ap length (program-holds os) });
+            held = λ q. (os, A .end, few-steps few, record { steps = sym (program-holds os); lawful = rw (program-holds os) (c .legal); whole = ap length (program-holds os); numbered = rw is at (p .numbered) });
           })
 
 texts-small : {g : Graph} {es : List Element} → Accepted elementLimit g es → (v : ℕ) → view es .text v < words
@@ -140,19 +141,19 @@ module _ (gra edg qry : List ℕ) {o : Outcome} {g : Graph} {kept : List ℕ} {c
     parts : (q : XPath) × (left : ℕ) × (n : ℕ) × (tablesThenQuery gra edg qry ≡ got (g, (keptIn kept count, (q, left))) n) × (queryFile (g .k) qry 0 ≡ got (q, left) n) × OfElements g kept count (g, keptIn kept count)
     parts =
         let (x, n, e, w) = p .held h in
-        let (m, graph, both) = under-out gra (λ g. then (tablesFile elementLimit g edg 0) (queryFile (g .k) qry 0)) e in
+        let (m, graph, both) = under-out gra (λ g. followedBy (tablesFile elementLimit g edg 0) (queryFile (g .k) qry 0)) e in
         let (l, tables, query) = then-out (tablesFile elementLimit (x .0) edg 0) (queryFile (x .0 .k) qry 0) both in
         let held : OfElements g kept count (g, keptIn kept count) = record { graph = refl; elements = refl; legal = w .legal; accepted = w .accepted; whole = w .whole; room = w .room } in
         (x .1 .1 .0, x .1 .1 .1, n, rw (← w .graph, ← w .elements) e, subst (λ g. queryFile (g .k) qry 0 ≡ got (x .1 .1) n) (w .graph) query, held)
 
-    pub plan-accepts : Accepts g qry
+    pub plan-accepts : AcceptedQuery g qry
     plan-accepts =
         let (q, left, n, e, query, w) = parts in
         let (legal, _, same) = query-read (g .k) (λ i. bytes i .fits) query in
         record { graph = w .legal; query = q; legal = legal; file = same; left = left; end = n; reads = query }
 
     pub plan-made : {o′ : Outcome} {program : Program} → Opens (translatedQuery g qry) o′ (Translated g program) → Opens (asked gra edg qry) o′ (Planned kept count program)
-    unfolding asked translatedQuery translate.programOf
+    unfolding asked translatedQuery boundedProgram
     plan-made {o′} {program} t =
         let (q, left, n, e, query, w) = parts in
         let es = keptIn kept count in
@@ -160,7 +161,7 @@ module _ (gra edg qry : List ℕ) {o : Outcome} {g : Graph} {kept : List ℕ} {c
           turned = λ {r} i. rw e (mapped-refused _ (rw query at (t .turned i)));
           held = λ i.
               let (os, m, made, v) = t .held i in
-              let os-is : translate.programOf g q n ≡ got os m = rw query at made in (
+              let os-is : boundedProgram g q n ≡ got os m = rw query at made in (
                 record { view = view es; path = q; program = os },
                 m,
                 rw e (mapped-got _ os-is),
@@ -168,7 +169,7 @@ module _ (gra edg qry : List ℕ) {o : Outcome} {g : Graph} {kept : List ℕ} {c
                   view = refl;
                   steps = v .steps;
                   right = rw (translated-is q n os-is) (translation-is-right g (w .legal) elementLimit es (w .accepted) q);
-                  ready = ready g (w .legal) (w .accepted) (w .room) (w .whole) (v .lawful) (v .whole);
+                  ready = ready g (w .legal) (w .accepted) (w .room) (w .whole) (v .lawful) (v .whole) (v .numbered);
                   texts = texts-small (w .accepted);
                 },
               );
@@ -178,7 +179,7 @@ module _ (gra edg qry : List ℕ) {o : Outcome} {g : Graph} {kept : List ℕ} {c
         picked q n true i = cc
         picked q n false i = cc
 
-        translated-is : (q : XPath) (n : ℕ) {m : ℕ} {os : List Operation} → translate.programOf g q n ≡ got os m → os ≡ translated g q
+        translated-is : (q : XPath) (n : ℕ) {m : ℕ} {os : List Operation} → boundedProgram g q n ≡ got os m → os ≡ translated g q
         translated-is q n i = picked q n (leb (stepCount q) stepLimit) i
 
 -- A plan is carried out.
@@ -202,7 +203,7 @@ module _ (gra edg qry out work : List ℕ) {o : Outcome} {kept : List ℕ} {coun
     list-on l = let (x, n, q, w) = p .held h in rw (q, ← w .right, w .view, w .steps) l
 
 module _ (gra edg qry : List ℕ) {o : Outcome} {kept : List ℕ} {count : ℕ} {program : Program} (p : Opens (asked gra edg qry) o (Planned kept count program)) (h : o ≡ outcome.Accepted) where
-  pub plan-ready : Ready kept count program
+  pub plan-ready : FitToRun kept count program
   plan-ready = let (x, n, q, w) = p .held h in w .ready
 
   pub plan-texts : (v : ℕ) → shown kept count .text v < words

@@ -9,12 +9,12 @@ use Rattle.meaning.specs.declared.Operation.{Operation}
 use Rattle.meaning.specs.Limits.{queryLimit}
 use Rattle.meaning.specs.Documents.{View, view}
 use Rattle.meaning.specs.Queries.{XPath, selected}
-use Rattle.fields.specs.Read.{Read, got, refused, bind}
+use Rattle.fields.specs.Read.{Read, got, refused, bind, mapped}
 use Rattle.writing.specs.Lent.{accepted, turnedAway}
 use Rattle.graph.specs.Gra.{graphFile}
-use Rattle.files.specs.Files.{mapped, documentUnder, tablesUnder, queryUnder, programUnder, tablesThenQuery}
-use Rattle.rooms.specs.Run.{Ran, untouched, leaves}
-use Rattle.translator.specs.Translate.{programOf}
+use Rattle.files.specs.Files.{documentUnder, tablesUnder, queryUnder, programUnder, tablesThenQuery}
+use Rattle.rooms.specs.Run.{Ran, bothUntouched, leaves}
+use Rattle.translator.specs.Translate.{boundedProgram}
 use Rattle.text.specs.Listing.{listing, listingRoom}
 
 -- accepted: 0 and what the file counts; refused: the number of the reason and 0
@@ -46,14 +46,14 @@ pub record Asked : Type 0 where
 
 -- the steps are counted when all files are read
 abbrev pub asking : Graph × (List Element × (XPath × ℕ)) → ℕ → Read Asked
-asking (g, (es, (p, left))) at = mapped (λ os. record { view = view es; path = p; program = os }) (programOf g p at)
+asking (g, (es, (p, left))) at = mapped (λ os. record { view = view es; path = p; program = os }) (boundedProgram g p at)
 
 unfoldable pub asked : List ℕ → List ℕ → List ℕ → Read Asked
 asked gra edg qry = bind (tablesThenQuery gra edg qry) asking
 
 unfoldable pub askedOr : (Asked → List ℕ → List ℕ → Ran) → Read Asked → List ℕ → List ℕ → Ran
 askedOr f (got a at) out work = f a out work
-askedOr f (refused r) out work = untouched r out work
+askedOr f (refused r) out work = bothUntouched r out work
 
 -- the nodes that the path selects, and in the work area its program's steps; n+1 bytes are asked for the nodes
 unfoldable pub chosen : Asked → List ℕ → List ℕ → Ran

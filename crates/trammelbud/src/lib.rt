@@ -8,7 +8,7 @@ ghost use Rattle.announce.specs.Check.{checkOf};
 ghost use Rattle.rooms.specs.Run.{Gives};
 ghost use Rattle.runner.specs.Run.{runOf};
 ghost use Rattle.trammelbud.specs.Calls.{readGraph, readDocument, readTables, readQuery, readProgram, selectOf, listOf};
-ghost use Rattle.trammelbud.specs.Parts.{answered, Countable};
+ghost use Rattle.trammelbud.specs.inside.Parts.{answerFor, Countable};
 
 mod list;
 mod plan;
@@ -26,7 +26,7 @@ use writing::turned_away;
 // What a reader alone answers: what its file counts.
 fn counted(outcome: Outcome, count: usize) -> Answer
     requires { ⌜ Countable outcome count ⌝ }
-    ensures { λ r. ⌜ r ≡ answered outcome count ⌝ }
+    ensures { λ r. ⌜ r ≡ answerFor outcome count ⌝ }
 {
     match outcome {
         Outcome::Accepted => accepted(usize_to_u32(count)),

@@ -2,8 +2,9 @@
 ghost use Prim.Native.Nat.{ℕ, _<_};
 ghost use Rattle.meaning.specs.Limits.{words};
 ghost use Rattle.meaning.specs.Operations.{answer};
-ghost use Rattle.meaning.specs.Records.{operationsIn};
-ghost use Rattle.rooms.specs.Ready.{shown, Ready};
+ghost use Rattle.meaning.specs.inside.Records.{operationsIn};
+ghost use Rattle.elements.specs.inside.Packing.{shown};
+ghost use Rattle.rooms.specs.inside.FitToRun.{FitToRun};
 ghost use Rattle.rooms.specs.Run.{Gives};
 ghost use Rattle.trammelbud.specs.Calls.{lists};
 use meaning::Answer;
@@ -25,7 +26,7 @@ pub(crate) fn list(
     out: &mut [u8],
     work: &mut [u8],
 ) -> Answer
-    requires { ⌜ Ready (now kept) count program × ((v : ℕ) → shown (now kept) count .text v < words) ⌝ }
+    requires { ⌜ FitToRun (now kept) count program × ((v : ℕ) → shown (now kept) count .text v < words) ⌝ }
     ensures { λ r. ⌜ Gives (lists (shown (now (kept .entry)) count) (answer (shown (now (kept .entry)) count) (operationsIn program)) (operationsIn program) (now (out .entry)) (now (work .entry))) r (now (out .exit)) (now (work .exit)) ⌝ }
 {
     if out.len() < 13 * (count + 2) {

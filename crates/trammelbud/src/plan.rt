@@ -1,12 +1,12 @@
 // The program that a query asks for: translated into a file, and read from it.
 ghost use mathlib.Core.Path.{_≡_};
 ghost use Rattle.meaning.specs.Limits.{elementLimit};
-ghost use Rattle.elements.specs.Kept.{blankPlaces};
-ghost use Rattle.files.specs.Files.{Opens};
-ghost use Rattle.translator.specs.Ready.{Accepts};
-ghost use Rattle.translator.specs.Translate.{translatedQuery};
+ghost use Rattle.elements.specs.inside.Packing.{blankPlaces};
+ghost use Rattle.files.specs.inside.Opens.{Opens};
+ghost use Rattle.translator.specs.inside.Translatable.{AcceptedQuery};
+ghost use Rattle.translator.specs.inside.Translated.{translatedQuery};
 ghost use Rattle.trammelbud.specs.Calls.{asked};
-ghost use Rattle.trammelbud.specs.Parts.{Translated, Planned};
+ghost use Rattle.trammelbud.specs.inside.Parts.{Translated, Planned};
 use meaning::Graph;
 use meaning::Outcome;
 use meaning::Program;
@@ -28,7 +28,7 @@ pub(crate) struct Plan {
 
 // The program of a query that was accepted. There is always room for its file, so too many steps are all that can be amiss.
 fn translated(g: Graph, qry: &[u8]) -> ProgramRead
-    requires { ⌜ Accepts g (now qry) ⌝ }
+    requires { ⌜ AcceptedQuery g (now qry) ⌝ }
     ensures { λ r. ⌜ Opens (translatedQuery g (now (qry .entry))) (r .outcome) (Translated g (r .program)) ⌝ }
 {
     let mut rel = [0u8; FILE];

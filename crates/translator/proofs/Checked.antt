@@ -12,14 +12,14 @@ use Rattle.meaning.specs.Queries.{XPath, LegalPath}
 use Rattle.meaning.specs.Operations.{LegalProgram}
 use Rattle.meaning.specs.Translation.{translated, stepCount}
 use Rattle.meaning.proofs.Counts.{translated-length, translated-legal}
-use Rattle.fields.specs.Read.{got}
+use Rattle.fields.specs.Read.{got, mapped}
 use Rattle.query.specs.Qry.{queryFile}
 use Rattle.rel.specs.Rel.{programFile, programBytes}
 use Rattle.rel.proofs.File.{program-written}
 use Rattle.rel.proofs.Encoded.{program-length}
 use Rattle.writing.specs.Lent.{stored, lent}
-use Rattle.files.specs.Files.{mapped}
-use Rattle.translator.specs.Translate.{programOf, translatedQuery, translatedUnder}
+use Rattle.translator.specs.inside.Translated.{translatedQuery, translatedUnder}
+use Rattle.translator.specs.Translate.{boundedProgram}
 
 pub file-length : (g : Graph) (p : XPath) → length (programBytes (translated g p)) ≡ 6 + 3 * stepCount p
 file-length g p = omega (arith, program-length (translated g p), translated-length g p)
@@ -37,5 +37,5 @@ translated-checked g p graph query few =
 -- the buffer as it is left: with the file in it, where there is room
 pub translated-stored : (g : Graph) (qry out : List ℕ) {p : XPath} {left n : ℕ} → queryFile (g .k) qry 0 ≡ got (p, left) n → stepCount p ≤ stepLimit
     → translatedUnder g qry out ≡ stored (programBytes (translated g p)) out
-unfolding translatedUnder translatedQuery programOf mapped lent
+unfolding translatedUnder translatedQuery boundedProgram mapped lent
 translated-stored g qry out {p} e few = rw (e, le-leb (stepCount p) stepLimit few)

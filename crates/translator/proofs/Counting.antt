@@ -9,7 +9,7 @@ use borrow.Author.Needs.{needs}
 use Rattle.meaning.specs.Limits.{stepLimit}
 use Rattle.meaning.specs.Queries.{XPath, Qualifier, self, child, anyChild, slash, slashes, union, filter, reached, textIs, isNot, both, either, pathCount, qualifierCount}
 use Rattle.query.specs.Qry.{pathBytes, qualifierBytes}
-use Rattle.translator.specs.Count.{fieldsOf, ownSteps, stepsIn, Counted}
+use Rattle.translator.specs.inside.Count.{fieldsOf, ownSteps, stepsIn, StepsCounted}
 
 skipped : (n : ℕ) (s : List ℕ) → stepsIn n s ≡ stepsIn 0 (drop n s)
 unfolding stepsIn
@@ -27,10 +27,10 @@ pub upto-none : (s : List ℕ) → Upto s 5 0
 upto-none s = record { sum = omega arith; near = omega arith; few = omega arith }
 
 module _ {s : List ℕ} {at steps : ℕ} (u : Upto s at steps) where
-  pub upto-many : stepLimit < steps → Counted s steps
+  pub upto-many : stepLimit < steps → StepsCounted s steps
   upto-many l = record { most = omega (arith, u .sum); all = λ m. absurd (omega arith); short = λ m. absurd (omega arith) }
 
-  pub upto-all : length s ≤ at → Counted s steps
+  pub upto-all : length s ≤ at → StepsCounted s steps
   unfolding stepsIn
   upto-all l =
       let e : stepsIn 0 (drop at s) ≡ 0 = ap (stepsIn 0) (drop-of-length-le s l) in

@@ -1,4 +1,4 @@
 -- The laws of the translator.
 pub mod Counting
 pub mod Checked
-pub mod Answers
+pub mod Translations

@@ -1,4 +1,3 @@
--- The program of a query, written as a file: Translate says what is shown. The others are what the functions below it ask of each other.
+-- The program of a query, written as a file.
 pub mod Translate
-pub mod Count
-pub mod Ready
+pub mod inside

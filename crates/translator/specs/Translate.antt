@@ -8,22 +8,14 @@ use Rattle.meaning.specs.declared.Reason.the-variants.{Steps}
 use Rattle.meaning.specs.Limits.{stepLimit}
 use Rattle.meaning.specs.Queries.{XPath}
 use Rattle.meaning.specs.Translation.{translated, stepCount}
-use Rattle.fields.specs.Read.{Read, got, refused, bind, pick}
-use Rattle.query.specs.Qry.{queryFile}
+use Rattle.fields.specs.Read.{Read, got, refused, bind, pick, mapped}
 use Rattle.rel.specs.Rel.{programBytes}
 use Rattle.writing.specs.Lent.{Lent, lent}
-use Rattle.files.specs.Files.{mapped, queryUnder}
+use Rattle.files.specs.Files.{queryUnder}
 
 -- a query's program, where it has at most 24 steps
-unfoldable pub programOf : Graph → XPath → ℕ → Read (List Operation)
-programOf g p at = pick (leb (stepCount p) stepLimit) (got (translated g p) at) (refused (record { reason = Steps }))
-
--- the query that the bytes hold, as a program under a graph
-unfoldable pub translatedQuery : Graph → List ℕ → Read (List Operation)
-translatedQuery g qry = bind (queryFile (g .k) qry 0) λ p at. programOf g (p .0) at
-
-unfoldable pub translatedUnder : Graph → List ℕ → List ℕ → Lent
-translatedUnder g qry out = lent (mapped programBytes (translatedQuery g qry)) out
+unfoldable pub boundedProgram : Graph → XPath → ℕ → Read (List Operation)
+boundedProgram g p at = pick (leb (stepCount p) stepLimit) (got (translated g p) at) (refused (record { reason = Steps }))
 
 unfoldable pub translation : List ℕ → List ℕ → List ℕ → Lent
-translation gra qry out = lent (bind (queryUnder gra qry) λ x at. mapped programBytes (programOf (x .0) (x .1 .0) at)) out
+translation gra qry out = lent (bind (queryUnder gra qry) λ x at. mapped programBytes (boundedProgram (x .0) (x .1 .0) at)) out

@@ -1,7 +1,7 @@
 // How many steps a query takes, before any is written.
 ghost use mathlib.Core.Path.{_≡_};
 ghost use Prim.Native.Nat.{_≤_};
-ghost use Rattle.translator.specs.Count.{fieldsOf, ownSteps, Counted};
+ghost use Rattle.translator.specs.inside.Count.{fieldsOf, ownSteps, StepsCounted};
 use crate::LIMIT;
 
 // The bytes that a node has behind its code.
@@ -28,7 +28,7 @@ fn own_steps(code: u8) -> usize
 
 // The steps of an accepted query: those of its nodes, which stand one behind the other. Above the limit counting ends.
 pub(crate) fn steps(qry: &[u8]) -> usize
-    ensures { λ r. ⌜ Counted (now (qry .entry)) r ⌝ }
+    ensures { λ r. ⌜ StepsCounted (now (qry .entry)) r ⌝ }
 {
     let mut at: usize = 5;
     let mut steps: usize = 0;

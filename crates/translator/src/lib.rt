@@ -4,8 +4,9 @@ mod count;
 
 ghost use lib.ListN.{length};
 ghost use Rattle.writing.specs.Lent.{Leaves};
-ghost use Rattle.translator.specs.Translate.{translatedUnder, translation};
-ghost use Rattle.translator.specs.Ready.{Accepts, Ready};
+ghost use Rattle.translator.specs.inside.Translated.{translatedUnder};
+ghost use Rattle.translator.specs.Translate.{translation};
+ghost use Rattle.translator.specs.inside.Translatable.{AcceptedQuery, Translatable};
 use meaning::Answer;
 use meaning::Graph;
 use meaning::Outcome;
@@ -16,7 +17,7 @@ const LIMIT: usize = 24;
 
 // The program of a query that was accepted and is not too long, where there is room for it.
 fn written(g: Graph, qry: &[u8], steps: u8, out: &mut [u8]) -> Answer
-    requires { ⌜ Ready g (now qry) steps (length (now out)) ⌝ }
+    requires { ⌜ Translatable g (now qry) steps (length (now out)) ⌝ }
     ensures { λ r. ⌜ Leaves (translatedUnder g (now (qry .entry)) (now (out .entry))) r (now (out .exit)) ⌝ }
 {
     let after = writing::header(out, b'R', b'E', b'L', 1);
@@ -27,7 +28,7 @@ fn written(g: Graph, qry: &[u8], steps: u8, out: &mut [u8]) -> Answer
 
 // What is still judged of a query that was accepted under a graph: its steps, then the room.
 pub fn write(g: Graph, qry: &[u8], out: &mut [u8]) -> Answer
-    requires { ⌜ Accepts g (now qry) ⌝ }
+    requires { ⌜ AcceptedQuery g (now qry) ⌝ }
     ensures { λ r. ⌜ Leaves (translatedUnder g (now (qry .entry)) (now (out .entry))) r (now (out .exit)) ⌝ }
 {
     let steps = count::steps(qry);

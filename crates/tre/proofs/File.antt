@@ -18,7 +18,7 @@ use Rattle.meaning.proofs.Views.{rule-first}
 use Rattle.fields.specs.Read.{got}
 use Rattle.fields.specs.Write.{Bytes, byteOf, headerOf}
 use Rattle.fields.proofs.Formats.{Reads, Takes, reads-bind, reads-header, reads-file, accepts-weaken, takes-bind, takes-first, takes-file}
-use Rattle.tre.specs.Tre.{Open, nothingOpen, pushed, popped, document, documentFile, closes, openOf, tokensOf, documentBytes}
+use Rattle.tre.specs.Tre.{Open, nothingOpen, pushed, popped, documentRead, documentFile, closes, openOf, tokensOf, documentBytes}
 use Rattle.tre.proofs.Runs.{opens, shuts, Run, last, more, tokens-accept, tokens-read}
 use Rattle.tre.proofs.Climbs.{Up, here, up, up-parent, closes-none, closes-one, up-least, closes-parent, rule-in, parent-less, rule-up, root-up}
 
@@ -202,8 +202,8 @@ module _ (limit : ℕ) (g : Graph) (es : List Element) (accepted : Accepted limi
       (more (opens few (edge-types g legal _ _ edge .1) (rw before edge) (accepted .texts (suc a))) (λ (z : suc a ≡ 0). omega arith)
       (rw next (rw (longer os e) at (run-in legal rest (os ++ (e ∷ [])) (whole ∙ sym (append-assoc os (e ∷ []) rest))))))
 
-  reads-document : LegalGraph g → Reads (document limit g) (documentBytes es) es
-  unfolding document documentBytes
+  reads-document : LegalGraph g → Reads (documentRead limit g) (documentBytes es) es
+  unfolding documentRead documentBytes
   reads-document legal =
       reads-bind _ (reads-header 0x54 0x52 0x45 1 1 (omega arith) (omega arith))
       (record {
@@ -212,8 +212,8 @@ module _ (limit : ℕ) (g : Graph) (es : List Element) (accepted : Accepted limi
             (omega (arith, ap length h, length-drop at s, length-append (tokensOf es 0 (length es)) after)) .reads s at after h;
       })
 
-takes-document : (limit : ℕ) (g : Graph) → Takes (document limit g) documentBytes (Accepted limit g)
-unfolding document documentBytes
+takes-document : (limit : ℕ) (g : Graph) → Takes (documentRead limit g) documentBytes (Accepted limit g)
+unfolding documentRead documentBytes
 takes-document limit g =
     takes-bind (takes-first 0x54 0x52 0x45) λ _ _.
     record { accepts = λ {s} bs le h. accepts-weaken (tokens-accept limit g (length s) nothingOpen) whole .accepts bs le h }

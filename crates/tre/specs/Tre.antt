@@ -1,4 +1,5 @@
--- TRE: tokens, 01 with type and text number opens, 02 closes; ends with the close of element 1.
+-- The document file: tokens that open an element, 0x01 with its type and text number, or close one, 0x02; the token that
+-- closes element 1 is the last.
 use Prim.Native.Nat.{ℕ, zero, suc}
 use mathlib.Core.List.{List, [], _∷_, _++_}
 use mathlib.Core.Bool.{_||_}
@@ -24,7 +25,7 @@ nothingOpen = record { elements = []; inner = 0 }
 unfoldable pub pushed : Open → ℕ → ℕ → Open
 pushed o t x = record { elements = o .elements ++ (record { parent = o .inner; kind = t; text = x } ∷ []); inner = suc (length (o .elements)) }
 
--- a token's code: 01 opens an element, where fewer than the limit are there; 02 closes one, and no file begins with it
+-- a token's code: 0x01 opens an element, where fewer than the limit are there; 0x02 closes one, and no file begins with it
 unfoldable pub code : ℕ → ℕ → Reader ℕ
 code limit count =
     judged
@@ -37,14 +38,14 @@ code limit count =
 abbrev pub newType : Graph → Open → Reader ℕ
 newType g o = judged (byteBelow (g .k) Kind) (λ t. childKind g (node (o .elements) (o .inner) .kind) t) Edge
 
--- after 01: the type, then the text
+-- after 0x01: the type, then the text
 unfoldable pub opened : Graph → Open → Reader Open
 opened g o = do
   t ← newType g o
   x ← word
   give (pushed o t x)
 
--- after 02: the parent of the innermost is the innermost again
+-- after 0x02: the parent of the innermost is the innermost again
 unfoldable pub popped : Open → Open
 popped o = record { elements = o .elements; inner = node (o .elements) (o .inner) .parent }
 
@@ -60,13 +61,13 @@ tokens (suc f) limit g o = do
   p ← token limit g o
   pick (eqb (p .inner) 0) (give (p .elements)) (tokens f limit g p)
 
-unfoldable pub document : ℕ → Graph → Reader (List Element)
-document limit g = do
+unfoldable pub documentRead : ℕ → Graph → Reader (List Element)
+documentRead limit g = do
   header 0x54 0x52 0x45 1
   λ s at. tokens (length s) limit g nothingOpen s at
 
 unfoldable pub documentFile : ℕ → Graph → Reader (List Element)
-documentFile limit g = ended (document limit g)
+documentFile limit g = ended (documentRead limit g)
 
 -- the closes from element a up to its ancestor b, which stays open
 unfoldable pub closes : ℕ → List Element → ℕ → ℕ → List ℕ

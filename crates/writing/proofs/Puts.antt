@@ -10,7 +10,7 @@ use Rattle.meaning.specs.declared.Refusal.{Refusal}
 use Rattle.meaning.specs.Refused.{numberOf}
 use Rattle.fields.specs.Write.{byteOf, wordOf, headerOf}
 use Rattle.writing.specs.Lent.{over, turnedAway}
-use Rattle.writing.specs.Put.{Put}
+use Rattle.writing.specs.inside.Put.{Put}
 
 pub over-nothing : (at : ℕ) (old : List ℕ) → over at [] old ≡ old
 unfolding over

@@ -11,7 +11,7 @@ use borrow.Author.Tests.{le-leb, lt-leb, leb-true}
 use Rattle.meaning.specs.declared.Reason.the-variants.{Room}
 use Rattle.fields.specs.Read.{Read, got, refused, pick}
 use Rattle.writing.specs.Lent.{accepted, over, untouched, stored, lent, fileIn}
-use Rattle.writing.specs.Put.{Put}
+use Rattle.writing.specs.inside.Put.{Put}
 use Rattle.writing.proofs.Puts.{over-front, over-length}
 
 module _ (file out : List ℕ) where

@@ -4,7 +4,7 @@ use mathlib.Core.Path.{_≡_, refl, ap, _∙_}
 use mathlib.Core.List.{List, [], _++_}
 use native.Mathlib.Omega.{arith}
 use lib.ListN.{length, length-append}
-use Rattle.writing.specs.Put.{Put}
+use Rattle.writing.specs.inside.Put.{Put}
 use Rattle.writing.proofs.Puts.{put-nothing, put-then, put-length}
 
 -- of the bytes that are to stand at a place, the rest is still to come

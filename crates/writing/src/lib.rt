@@ -4,7 +4,7 @@ ghost use Prim.Native.Nat.{_+_, _<_, _≤_};
 ghost use lib.ListN.{length};
 ghost use Rattle.fields.specs.Write.{byteOf, wordOf, headerOf};
 ghost use Rattle.writing.specs.Lent.{accepted, turnedAway};
-ghost use Rattle.writing.specs.Put.{Put};
+ghost use Rattle.writing.specs.inside.Put.{Put};
 use meaning::Answer;
 use meaning::Reason;
 use meaning::Refusal;

@@ -1,5 +1,5 @@
 -- What is refused is the answer; else graph and program are legal, and every step is announced.
-use Rattle.announce.proofs.Answers.{answers}
+use Rattle.announce.proofs.Checking.{answers}
 use Rattle.announce.proofs.check.Statement.{statement}
 use Rattle.announce.proofs.check.Tie as tie
 

@@ -1,5 +1,5 @@
 -- The number is the reason's, and no pairs are announced.
-use Rattle.announce.proofs.Answers.{answers}
+use Rattle.announce.proofs.Checking.{answers}
 use Rattle.announce.proofs.refused.Statement.{statement}
 use Rattle.announce.proofs.refused.Tie as tie
 

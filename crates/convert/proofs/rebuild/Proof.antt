@@ -1,5 +1,5 @@
 -- A refusal is handed on; else the document of the elements that are kept is written.
-use Rattle.convert.proofs.Answers.{laws}
+use Rattle.convert.proofs.Conversions.{laws}
 use Rattle.convert.proofs.rebuild.Statement.{statement}
 use Rattle.convert.proofs.rebuild.Tie as tie
 

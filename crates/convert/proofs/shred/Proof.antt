@@ -1,5 +1,5 @@
 -- A refusal is handed on; else the tables of the elements that are kept are written.
-use Rattle.convert.proofs.Answers.{laws}
+use Rattle.convert.proofs.Conversions.{laws}
 use Rattle.convert.proofs.shred.Statement.{statement}
 use Rattle.convert.proofs.shred.Tie as tie
 

@@ -1,5 +1,5 @@
 -- Node 0 and numbers past the elements are the document node; the others stand in their places.
-use Rattle.elements.proofs.Kept.{node-laws}
+use Rattle.elements.proofs.Packing.{node-laws}
 use Rattle.elements.proofs.node_at.Statement.{statement}
 use Rattle.elements.proofs.node_at.Tie as tie
 

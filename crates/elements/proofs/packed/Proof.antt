@@ -1,5 +1,5 @@
 -- Parent, type and text number fit their bits.
-use Rattle.elements.proofs.Kept.{packed-laws}
+use Rattle.elements.proofs.Packing.{packed-laws}
 use Rattle.elements.proofs.packed.Statement.{statement}
 use Rattle.elements.proofs.packed.Tie as tie
 

@@ -1,5 +1,5 @@
 -- How the field came out.
-use Rattle.elements.proofs.Kept.{packed-laws}
+use Rattle.elements.proofs.Packing.{packed-laws}
 use Rattle.elements.proofs.turned_away.Statement.{statement}
 use Rattle.elements.proofs.turned_away.Tie as tie
 

@@ -1,5 +1,5 @@
 -- The parts of the 32 bits fit the fields of an element.
-use Rattle.elements.proofs.Kept.{packed-laws}
+use Rattle.elements.proofs.Packing.{packed-laws}
 use Rattle.elements.proofs.unpacked.Statement.{statement}
 use Rattle.elements.proofs.unpacked.Tie as tie
 

@@ -29,6 +29,7 @@ announce-spec =
     (λ c. search turns)
     (λ c. search turns)
     (λ c κs. search turns)
+    (λ c κs. search turns)
     (λ c. search turns)
     (λ c. search turns)
     (λ c. search turns)

@@ -2,7 +2,7 @@
 use Prim.Native.Nat.{_-_}
 use Rattle.meaning.specs.Limits.{kinds}
 use Rattle.kinds.proofs.KindMasks.{Upto}
-use Rattle.masks.specs.Pairs.{relOf}
+use Rattle.masks.specs.Announcement.{relOf}
 use Rattle.masks.proofs.Algebra.{leads, algebra}
 use Rattle.masks.proofs.closure.Statement.{statement}
 use Rattle.masks.proofs.closure.Tie as tie

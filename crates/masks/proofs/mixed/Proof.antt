@@ -1,7 +1,8 @@
 -- Row by row.
 use Prim.Native.Nat.{_-_}
 use Rattle.meaning.specs.Limits.{kinds}
-use Rattle.masks.specs.Pairs.{relOf, mixture}
+use Rattle.masks.specs.Announcement.{relOf}
+use Rattle.masks.specs.inside.Pairs.{mixture}
 use Rattle.masks.proofs.Rows.{Rows}
 use Rattle.masks.proofs.Algebra.{algebra}
 use Rattle.masks.proofs.mixed.Statement.{statement}

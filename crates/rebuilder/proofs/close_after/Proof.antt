@@ -1,5 +1,5 @@
 -- Each close leads to the parent, whose number is smaller, until the next one's parent is reached.
-use Rattle.elements.specs.Kept.{keptIn}
+use Rattle.elements.specs.inside.Packing.{keptIn}
 use Rattle.writing.proofs.Toward.{Toward}
 use Rattle.rebuilder.proofs.Closing.{Climbing, closesFrom, laws}
 use Rattle.rebuilder.proofs.close_after.Statement.{statement}

@@ -1,4 +1,4 @@
--- 01, the type, the text number.
+-- 0x01, the type, the text number.
 use Rattle.rebuilder.proofs.Tokens.{laws}
 use Rattle.rebuilder.proofs.open.Statement.{statement}
 use Rattle.rebuilder.proofs.open.Tie as tie

@@ -1,5 +1,5 @@
 -- Without the room nothing is written; with it header and tokens are, and the length fits.
-use Rattle.rebuilder.proofs.Answers.{laws}
+use Rattle.rebuilder.proofs.Whole.{laws}
 use Rattle.rebuilder.proofs.write.Statement.{statement}
 use Rattle.rebuilder.proofs.write.Tie as tie
 

@@ -1,8 +1,8 @@
 -- Each turn writes the tokens from one element's open to the next, and the closes come last.
 use Prim.Native.Nat.{_-_, _≤_}
-use Rattle.elements.specs.Kept.{keptIn}
+use Rattle.elements.specs.inside.Packing.{keptIn}
 use Rattle.writing.proofs.Toward.{Toward}
-use Rattle.rebuilder.specs.Rebuild.{tokensIn}
+use Rattle.rebuilder.specs.inside.TokensFit.{tokensIn}
 use Rattle.rebuilder.proofs.Tokens.{tokensAfter, laws}
 use Rattle.rebuilder.proofs.write_tokens.Statement.{statement}
 use Rattle.rebuilder.proofs.write_tokens.Tie as tie

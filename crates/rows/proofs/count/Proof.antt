@@ -3,7 +3,7 @@ use mathlib.Core.Path.{refl}
 use native.Mathlib.Nat.{zero-add}
 use borrow.Author.Needs.{needs}
 use Rattle.meaning.specs.Sets.{listed}
-use Rattle.rows.proofs.Answers.{count-more}
+use Rattle.rows.proofs.Tallies.{count-more}
 use Rattle.rows.proofs.count.Statement.{statement}
 use Rattle.rows.proofs.count.Tie as tie
 

@@ -1,7 +1,7 @@
 -- The ones of a word are its bits that are set.
 use lib.Count.{ones-le}
 use borrow.Author.Needs.{needs}
-use Rattle.rows.proofs.Answers.{ones-tally}
+use Rattle.rows.proofs.Tallies.{ones-tally}
 use Rattle.rows.proofs.ones.Statement.{statement}
 use Rattle.rows.proofs.ones.Tie as tie
 

@@ -4,7 +4,7 @@ use mathlib.Core.Path.{_≡_}
 use native.Mathlib.Omega.{arith}
 use borrow.Author.Needs.{needs}
 use Rattle.meaning.specs.Sets.{mask}
-use Rattle.rows.specs.Rows.{inBytes, stretch}
+use Rattle.rows.specs.inside.Rows.{inBytes, stretch}
 use Rattle.rows.proofs.Words.{word-more}
 use Rattle.rows.proofs.read_word.Statement.{statement}
 use Rattle.rows.proofs.read_word.Tie as tie

@@ -1,5 +1,5 @@
 -- Without the room nothing is written; with it header, k and the tables are, and the length fits.
-use Rattle.shredder.proofs.Answers.{laws}
+use Rattle.shredder.proofs.Whole.{laws}
 use Rattle.shredder.proofs.write.Statement.{statement}
 use Rattle.shredder.proofs.write.Tie as tie
 

@@ -1,6 +1,6 @@
 -- Each turn writes the row of one more element, if it has the type.
 use Prim.Native.Nat.{_-_, _≤_}
-use Rattle.elements.specs.Kept.{keptIn}
+use Rattle.elements.specs.inside.Packing.{keptIn}
 use Rattle.writing.proofs.Toward.{Toward}
 use Rattle.shredder.proofs.Rows.{rowsAfter, laws}
 use Rattle.shredder.proofs.write_rows.Statement.{statement}

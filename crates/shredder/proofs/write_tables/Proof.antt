@@ -1,6 +1,6 @@
 -- Each turn writes the table of one more type.
 use Prim.Native.Nat.{_-_, _≤_}
-use Rattle.elements.specs.Kept.{keptIn}
+use Rattle.elements.specs.inside.Packing.{keptIn}
 use Rattle.edg.specs.Edg.{tablesOf}
 use Rattle.writing.proofs.Toward.{Toward}
 use Rattle.shredder.proofs.Tables.{laws}

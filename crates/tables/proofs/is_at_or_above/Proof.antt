@@ -2,7 +2,7 @@
 use mathlib.Core.Bool.{_&&_, _||_}
 use lib.Dec.{eqb, ltb}
 use Rattle.meaning.specs.Documents.{view, below}
-use Rattle.elements.specs.Kept.{keptIn}
+use Rattle.elements.specs.inside.Packing.{keptIn}
 use Rattle.tables.proofs.Elements.{Climbing, climb-laws}
 use Rattle.tables.proofs.is_at_or_above.Statement.{statement}
 use Rattle.tables.proofs.is_at_or_above.Tie as tie

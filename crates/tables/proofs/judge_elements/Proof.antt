@@ -1,8 +1,8 @@
 -- The elements below i keep both rules, and judging the others comes to the same as judging all.
 use Prim.Native.Nat.{suc, _-_}
 use mathlib.Core.List.{[]}
-use Rattle.fields.specs.Read.{passed}
-use Rattle.elements.specs.Kept.{keptIn}
+use Rattle.fields.specs.inside.Outcomes.{passed}
+use Rattle.elements.specs.inside.Packing.{keptIn}
 use Rattle.edg.specs.Edg.{elementsJudged}
 use Rattle.tables.proofs.Elements.{Judging, judging-laws}
 use Rattle.tables.proofs.judge_elements.Statement.{statement}

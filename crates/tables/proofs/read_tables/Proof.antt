@@ -2,14 +2,15 @@
 use Prim.Native.Nat.{_-_}
 use Rattle.meaning.specs.Limits.{elementLimit}
 use Rattle.edg.specs.Edg.{tablesRead}
-use Rattle.tables.specs.Kept.{mapped, gatheredIn, none, added}
+use Rattle.fields.specs.Read.{mapped}
+use Rattle.tables.specs.inside.Gathered.{gatheredIn, none, putAll}
 use Rattle.tables.proofs.Tables.{Below, tables-laws}
 use Rattle.tables.proofs.read_tables.Statement.{statement}
 use Rattle.tables.proofs.read_tables.Tie as tie
 
 abbrev Inv-loop : tie.InvT-loop
 Inv-loop s k kept₀ times₀ total₀ cursor₀ kind₀ kept times total cursor kind =
-    Below (mapped (added none) (tablesRead elementLimit 0 0 k s (cursor₀ .at))) s k (gatheredIn kept times total) kind (cursor .at)
+    Below (mapped (putAll none) (tablesRead elementLimit 0 0 k s (cursor₀ .at))) s k (gatheredIn kept times total) kind (cursor .at)
 
 abbrev μ-loop : tie.MeasureT-loop
 μ-loop s k kept₀ times₀ total₀ cursor₀ kind₀ kept times total cursor kind =

@@ -1,6 +1,6 @@
 -- Each turn writes one more line.
 use Prim.Native.Nat.{_-_}
-use Rattle.text.specs.Listable.{shown}
+use Rattle.elements.specs.inside.Packing.{shown}
 use Rattle.text.proofs.Turns.{Written, laws}
 use Rattle.text.proofs.lines.Statement.{statement}
 use Rattle.text.proofs.lines.Tie as tie

@@ -1,5 +1,5 @@
 -- A refusal is handed on; what was accepted is judged further.
-use Rattle.translator.proofs.Answers.{answers}
+use Rattle.translator.proofs.Translations.{answers}
 use Rattle.translator.proofs.translate.Statement.{statement}
 use Rattle.translator.proofs.translate.Tie as tie
 

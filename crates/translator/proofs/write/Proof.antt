@@ -1,5 +1,5 @@
 -- Above 24 steps the answer is 11, without room 12.
-use Rattle.translator.proofs.Answers.{answers}
+use Rattle.translator.proofs.Translations.{answers}
 use Rattle.translator.proofs.write.Statement.{statement}
 use Rattle.translator.proofs.write.Tie as tie
 

@@ -1,5 +1,5 @@
 -- The header, the number of steps, and the steps are the program's file.
-use Rattle.translator.proofs.Answers.{answers}
+use Rattle.translator.proofs.Translations.{answers}
 use Rattle.translator.proofs.written.Statement.{statement}
 use Rattle.translator.proofs.written.Tie as tie
 

@@ -1,6 +1,6 @@
 -- Each arm is a row of the table.
-use Rattle.descent.proofs.Facts.{rows}
-use Rattle.descent.specs.Rows.{rowOf}
+use Rattle.descent.proofs.Facts.{row-laws}
+use Rattle.descent.specs.inside.Rows.{rowOf}
 use Rattle.descent.proofs.rows.row_of.Statement.{statement}
 use Rattle.descent.proofs.rows.row_of.Tie as tie
 
@@ -9,15 +9,15 @@ unfolding rowOf
 row-of-spec =
     tie.close
     (tie.spec
-    (λ c. search rows)
-    (λ c. search rows)
-    (λ c. search rows)
-    (λ c. search rows)
-    (λ c. search rows)
-    (λ c. search rows)
-    (λ c. search rows)
-    (λ c. search rows)
-    (λ c. search rows)
-    (λ c. search rows)
-    (λ c. search rows)
-    (λ c. search rows))
+    (λ c. search row-laws)
+    (λ c. search row-laws)
+    (λ c. search row-laws)
+    (λ c. search row-laws)
+    (λ c. search row-laws)
+    (λ c. search row-laws)
+    (λ c. search row-laws)
+    (λ c. search row-laws)
+    (λ c. search row-laws)
+    (λ c. search row-laws)
+    (λ c. search row-laws)
+    (λ c. search row-laws))

@@ -1,12 +1,12 @@
 -- Every byte of the room is 0.
 use Prim.Native.Nat.{_-_, _≤_}
-use Rattle.rows.specs.Rows.{Written}
+use Rattle.rows.specs.inside.Rows.{BytesMade}
 use Rattle.rooms.proofs.Rooms.{clear-laws}
 use Rattle.rooms.proofs.room.clear.Statement.{statement}
 use Rattle.rooms.proofs.room.clear.Tie as tie
 
 abbrev Inv-loop : tie.InvT-loop
-Inv-loop work₀ base width size k₀ work k = (k ≤ size) × Written work₀ work base k (λ j. 0)
+Inv-loop work₀ base width size k₀ work k = (k ≤ size) × BytesMade work₀ work base k (λ j. 0)
 
 abbrev μ-loop : tie.MeasureT-loop
 μ-loop work₀ base width size k₀ work k = size - k

@@ -1,8 +1,8 @@
 -- Each number below v is in where its row has a first number.
 use Prim.Native.Nat.{_-_, _≤_}
 use Rattle.meaning.specs.Limits.{rowBits}
-use Rattle.rows.specs.Rows.{Bits, rowsAt}
-use Rattle.rooms.specs.Rooms.{starting}
+use Rattle.rows.specs.inside.Rows.{Bits, rowsAt}
+use Rattle.rooms.specs.inside.Rooms.{starting}
 use Rattle.rooms.proofs.Turns.{starts-laws}
 use Rattle.rooms.proofs.room.starts.Statement.{statement}
 use Rattle.rooms.proofs.room.starts.Tie as tie

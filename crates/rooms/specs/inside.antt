@@ -1,0 +1,4 @@
+-- What functions of the library ask of each other: no caller has to believe it.
+pub mod Rooms
+pub mod FitToRun
+pub mod Steps
