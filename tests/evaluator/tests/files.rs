@@ -25,6 +25,24 @@ fn queries() {
 }
 
 #[test]
+fn program() {
+    let steps = [
+        [2, 0, 0],
+        [1, 0, 0x0F],
+        [6, 1, 0],
+        [2, 0, 0],
+        [5, 2, 3],
+        [4, 0, 4],
+        [1, 0, 0x04],
+        [4, 5, 6],
+    ];
+    assert_eq!(
+        file("program.rel"),
+        [b"REL\x00\x01\x08", steps.as_flattened()].concat()
+    );
+}
+
+#[test]
 fn listing() {
     let listing = file("listing.txt");
     let text = str::from_utf8(&listing).expect("a listing is ASCII");

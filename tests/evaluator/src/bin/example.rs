@@ -1,8 +1,9 @@
-//! Writes the example of 01 to files.
+//! Writes the example of docs/RULES.md, section 18, to files.
 //!
 //! `example FOLDER` writes the graph, the document, its tables, the fourteen
-//! queries with a list of them, and the listing of the fifth. `example --corpus FOLDER` writes what
-//! the fuzzer starts from, in the layout that its harness reads.
+//! queries with a list of them, and the program and the listing of the fifth.
+//! `example --corpus FOLDER` writes what the fuzzer starts from, in the layout
+//! that its harness reads.
 
 use evaluator::document::Document;
 use evaluator::graph::Graph;
@@ -46,6 +47,7 @@ fn write_example(folder: &Path) -> Result<()> {
     fs::write(queries.join("index.txt"), index)?;
     let fifth = &example::queries()[4].qry;
     fs::write(folder.join("query.qry"), fifth)?;
+    fs::write(folder.join("program.rel"), program(&gra, fifth))?;
     fs::write(folder.join("listing.txt"), listing(&gra, &edg, fifth))
 }
 
