@@ -25,7 +25,7 @@ pub mod refusal;
 pub mod relation;
 pub mod runner;
 pub mod tables;
-#[cfg(archive)]
+#[cfg(feature = "archive")]
 pub mod trammelbud;
 pub mod translate;
 pub mod tree;

@@ -22,11 +22,11 @@ struct Case {
 
 fn main() -> ExitCode {
     let words: Vec<String> = env::args().skip(1).collect();
-    let [program] = &words[..] else {
+    if words.len() != 1 {
         eprintln!("listings PROGRAM");
         return ExitCode::from(2);
-    };
-    match run(Path::new(program)) {
+    }
+    match run(Path::new(&words[0])) {
         Ok(0) => ExitCode::SUCCESS,
         Ok(_) => ExitCode::FAILURE,
         Err(error) => {
@@ -79,9 +79,7 @@ fn printed_by(program: &PathBuf, folder: &Path, files: &Files) -> Result<Vec<u8>
 
 /// What 01 says is printed: a missing file counts as empty.
 fn listing(files: &Files) -> Vec<u8> {
-    let [gra, edg, qry] = files
-        .each_ref()
-        .map(|file| file.as_deref().unwrap_or_default());
+    let [gra, edg, qry] = [0, 1, 2].map(|at| files[at].as_deref().unwrap_or_default());
     let mut text = vec![0; 4096];
     let mut work = vec![0; 24 * 2048];
     let answer = calls::list(gra, edg, qry, &mut text, &mut work);

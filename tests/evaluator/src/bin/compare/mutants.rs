@@ -169,8 +169,8 @@ const MUTANTS: &[Mutant] = &[
         spoil: |_, outcome| {
             outcome
                 .announced
-                .as_flattened_mut()
                 .iter_mut()
+                .flatten()
                 .for_each(|kinds| *kinds &= !0x8000)
         },
     },
