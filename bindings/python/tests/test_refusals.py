@@ -1,5 +1,7 @@
 """Each refusal, and what a refused call leaves."""
 
+from __future__ import annotations
+
 import unittest
 from typing import Callable
 
