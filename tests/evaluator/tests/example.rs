@@ -1,4 +1,5 @@
-//! The example of 01, by the walk over the tree and by translating and running.
+//! The example of docs/RULES.md, section 18, by the walk over the tree and by
+//! translating and running.
 
 mod common;
 
