@@ -1,5 +1,6 @@
 //! An evaluator of Trammelbud's public calls that shares nothing with the
-//! library: it follows docs/RULES.md and XPath 1.0 alone, to be compared with it.
+//! library: it follows the rules of docs/RULES.md and XPath 1.0 alone, to be
+//! compared with it.
 //!
 //! It goes the plain way wherever there is one. A document is a tree of nodes
 //! with lists of children, a query is walked over it node by node, and a
