@@ -14,22 +14,26 @@
  *   made from several threads at once.
  * - Files may hold any bytes whatever. A call comes back with a number: 0 when
  *   it accepts, otherwise a refusal of the list below.
- * - A refused call answers nothing else (its count is 0, its sets are empty),
- *   and every lent buffer has the bytes it came with.
+ * - A refused call answers nothing else, its count is 0 and its sets are
+ *   empty, and it writes nothing: a lent buffer comes back as it was.
  * - What a lent buffer held before never matters, and the bytes past what is
  *   written stay as they were.
+ * - A call must have the stack it needs. tests/stack measures each: tb_run stays
+ *   within 4,096 bytes, and tb_check takes the most, just under 7,000.
  *
  * The five files, after a mark of three letters and a 16-bit version, 1
  * (numbers of 16 bits are big-endian, all other numbers are one byte):
  *
- *   GRA  graph     k; root type; k masks of 16 bits, bit t set where type t
- *                  may be a child
+ *   GRA  graph     k; the root type; a mask of 16 bits for each type, whose
+ *                  bit t says that type t may be its child
  *   TRE  document  tokens: 01, type, text number (2 bytes) opens an element,
  *                  02 closes it
  *   EDG  tables    k; for each type a row count, then rows of from, to, text
  *                  number (2 bytes), `to` ascending
  *   QRY  query     one path in prefix order
- *   REL  program   step count; steps of three bytes: operation, x, y
+ *   REL  program   how many steps; for each an operation and two bytes x, y
+ *
+ * docs/FORMATS.md has them field by field, docs/RULES.md what they mean.
  *
  * A graph has k types, 1 to 16; a document n elements, 1 to 127, numbered in
  * document order from 1, with 0 for the document node; a query at most 24
@@ -51,19 +55,22 @@ extern "C" {
  * first fault it meets is its answer. */
 enum tb_refusal {
     TB_ACCEPTED = 0,
-    TB_ENDED = 1,   /* the bytes end inside a field, or before the file is complete */
-    TB_MARK = 2,    /* wrong mark */
-    TB_VERSION = 3, /* version not 1 */
-    TB_BOUND = 4,   /* a bound is passed; k, the step count or the total of rows is 0;
-                       k of the tables isn't the graph's */
-    TB_CODE = 5,    /* unknown code, or a code not allowed at that place */
-    TB_TYPE = 6,    /* a type or root of k or more, or a mask bit of k or more */
-    TB_EDGE = 7,    /* root type wrong, edge not in the graph, or a first token that closes */
-    TB_ROW = 8,     /* a wrong number or parent in the tables */
-    TB_OPERAND = 9, /* an operand not below its own step */
-    TB_EXTRA = 10,  /* bytes after the end, or an unused x or y not 0 */
-    TB_STEPS = 11,  /* the query needs more than 24 steps; after all reading */
-    TB_ROOM = 12    /* a lent buffer is too short; last of all */
+    TB_ENDED = 1,   /* the file stops too early, inside a field or between two */
+    TB_MARK = 2,    /* its first three letters are not its mark */
+    TB_VERSION = 3, /* its version is another than 1 */
+    TB_BOUND = 4,   /* more types, elements, query nodes or steps than there may be;
+                       no type, no step or no row at all; tables for another k than
+                       the graph's */
+    TB_CODE = 5,    /* a code that means nothing where it stands */
+    TB_TYPE = 6,    /* a type, the root or a bit of a mask is past the graph's last type */
+    TB_EDGE = 7,    /* element 1 is not of the root type, an element may not be its
+                       parent's child, or the document begins with a close */
+    TB_ROW = 8,     /* a row of the tables has a wrong number or a wrong parent */
+    TB_OPERAND = 9, /* a step reads its own result or a later one's */
+    TB_EXTRA = 10,  /* the file goes on past its end, or has an x or y other than 0
+                       where the operation uses none */
+    TB_STEPS = 11,  /* the query would take more than 24 steps; judged after all reading */
+    TB_ROOM = 12    /* a lent buffer is too short; judged last of all */
 };
 
 /* The bounds, and rooms that are always enough. */
@@ -86,8 +93,9 @@ typedef struct tb_answer {
     uint32_t count; /* what it is a count of is told at each call */
 } tb_answer;
 
-/* The pairs of kinds that one step may join: bit B of pairs[A] is set where a
- * row from a node of kind A to one of kind B is possible. */
+/* What is announced of one step: where bit B of pairs[A] is not set, it makes no
+ * row from a node of kind A to one of kind B. Where it is set, there need not be
+ * such a row. */
 typedef struct tb_announced {
     uint32_t pairs[TB_KINDS];
 } tb_announced;
@@ -170,9 +178,9 @@ tb_checked tb_check(const uint8_t *gra, size_t gra_len,
  * every step to `work`. Answers the number of nodes.
  * Room: n + 1 bytes of `out`, however few are selected, and TB_STEP_ROOM bytes
  * of `work` for each step.
- * Step s starts at byte 2048 s of `work`, its rows from node v at 16 v within
- * it; the row (v, w) is bit w mod 8, lowest first, of byte w div 8 there. All
- * other bits of a step are 0.
+ * Step s has the 2,048 bytes from 2048 s on, and node v the 16 of these from
+ * 16 v on: whether (v, w) is a row of the step is told in byte w / 8 of the 16
+ * by bit w % 8, counted from the lowest. A bit that stands for no row is 0.
  * Refusals: those of tb_read_tables, then of tb_read_program, 12. */
 tb_answer tb_run(const uint8_t *gra, size_t gra_len,
                  const uint8_t *edg, size_t edg_len,
@@ -191,9 +199,10 @@ tb_answer tb_select(const uint8_t *gra, size_t gra_len,
                     uint8_t *work, size_t work_len);
 
 /* Reads a graph, tables and a query and writes the listing of the query's
- * nodes to `text`: `selected` and their count, then a line of number, type and
- * text number for each, in decimal with one space between; node 0 is `0 16 0`.
- * Byte 10 ends each line and nothing ends the text. Answers its length.
+ * nodes to `text`: `selected` and how many there are on the first line, and on
+ * one line for each node its number, its type and its text number, in decimal
+ * with one space between; node 0 is `0 16 0`. Byte 10 ends each line and nothing
+ * ends the text. Answers its length.
  * Room: 13(n+2) bytes, which the longest listing of n elements takes, at most
  * TB_LISTING_ROOM, and TB_STEP_ROOM bytes of `work` for each step, which are
  * left as tb_select leaves them.

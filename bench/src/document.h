@@ -1,5 +1,5 @@
 /* The documents that are asked: archives of groups, stations and remarks under
- * the graph of document 01's example. */
+ * the graph of examples/stations. */
 #ifndef DOCUMENT_H
 #define DOCUMENT_H
 

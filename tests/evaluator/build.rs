@@ -5,18 +5,21 @@
 //! archive is built.
 
 use std::env;
+use std::ffi::OsStr;
 use std::path::Path;
 
 fn main() {
-    println!("cargo::rustc-check-cfg=cfg(archive)");
-    println!("cargo::rerun-if-env-changed=TRAMMELBUD_LIB");
-    let Some(given) = env::var_os("TRAMMELBUD_LIB") else {
-        return;
-    };
+    println!("cargo:rerun-if-env-changed=TRAMMELBUD_LIB");
+    if let Some(given) = env::var_os("TRAMMELBUD_LIB") {
+        link(&given);
+    }
+}
+
+fn link(given: &OsStr) {
     let package = env::var_os("CARGO_MANIFEST_DIR").expect("cargo names the package's folder");
     let folder = Path::new(&package).join("../..").join(given);
     let archive = folder.join("libtrammelbud.a");
-    println!("cargo::rerun-if-changed={}", archive.display());
-    println!("cargo::rustc-link-search=native={}", folder.display());
-    println!("cargo::rustc-cfg=archive");
+    println!("cargo:rerun-if-changed={}", archive.display());
+    println!("cargo:rustc-link-search=native={}", folder.display());
+    println!("cargo:rustc-cfg=feature=\"archive\"");
 }

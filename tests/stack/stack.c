@@ -63,6 +63,11 @@ static void fill_program(void)
 
 static int number;
 
+static void call_graph(void) { number = tb_read_graph(gra, sizeof gra).number; }
+static void call_document(void) { number = tb_read_document(gra, sizeof gra, tre, sizeof tre).number; }
+static void call_tables(void) { number = tb_read_tables(gra, sizeof gra, edg, sizeof edg).number; }
+static void call_query(void) { number = tb_read_query(gra, sizeof gra, qry, qry_length).number; }
+static void call_program(void) { number = tb_read_program(gra, sizeof gra, rel, sizeof rel).number; }
 static void call_shred(void) { number = tb_shred(gra, sizeof gra, tre, sizeof tre, out, sizeof out).number; }
 static void call_rebuild(void) { number = tb_rebuild(gra, sizeof gra, edg, sizeof edg, out, sizeof out).number; }
 static void call_translate(void) { number = tb_translate(gra, sizeof gra, qry, qry_length, out, sizeof out).number; }
@@ -109,8 +114,10 @@ static size_t measure(void (*call)(void))
 int main(void)
 {
     static const struct { const char *name; void (*call)(void); } calls[] = {
-        {"tb_shred", call_shred}, {"tb_rebuild", call_rebuild}, {"tb_translate", call_translate}, {"tb_check", call_check},
-        {"tb_run", call_run},     {"tb_select", call_select},   {"tb_list", call_list},
+        {"tb_read_graph", call_graph}, {"tb_read_document", call_document}, {"tb_read_tables", call_tables},
+        {"tb_read_query", call_query}, {"tb_read_program", call_program},   {"tb_shred", call_shred},
+        {"tb_rebuild", call_rebuild},  {"tb_translate", call_translate},    {"tb_check", call_check},
+        {"tb_run", call_run},          {"tb_select", call_select},          {"tb_list", call_list},
     };
     int failed = 0;
     fill_document();
@@ -118,7 +125,7 @@ int main(void)
     fill_program();
     for (size_t i = 0; i < sizeof calls / sizeof *calls; i++) {
         size_t used = measure(calls[i].call);
-        printf("%-12s %5zu bytes of stack\n", calls[i].name, used);
+        printf("%-16s %5zu bytes of stack\n", calls[i].name, used);
         if (number != 0) {
             printf("stack: %s was refused with %d\n", calls[i].name, number);
             failed = 1;

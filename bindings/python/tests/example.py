@@ -1,4 +1,4 @@
-"""The example files, and what document 01 says of them."""
+"""The example files, and the nodes that each query selects."""
 
 from pathlib import Path
 

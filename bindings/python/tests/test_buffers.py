@@ -57,6 +57,14 @@ class Buffers(unittest.TestCase):
         out.extend(b"more")
         self.assertEqual(len(out), 46)
 
+    def test_a_refused_call_gives_its_buffers_back_before_it_raises(self) -> None:
+        out = bytearray(41)
+        try:
+            trammelbud.shred_into(GRAPH, DOCUMENT, out)
+        except Refused:
+            out.extend(b"\x00")
+        self.assertEqual(trammelbud.shred_into(GRAPH, DOCUMENT, out), 42)
+
 
 if __name__ == "__main__":
     unittest.main()

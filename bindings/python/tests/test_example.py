@@ -59,6 +59,11 @@ class Example(unittest.TestCase):
         with self.assertRaises(IndexError):
             ran.rows(8)
 
+    def test_a_run_shows_the_size_of_its_work_area(self) -> None:
+        ran = trammelbud.select(GRAPH, TABLES, query(5))
+        self.assertEqual(repr(ran), "Run(nodes=(4, 6, 7), steps=8, work=<16384 bytes>)")
+        self.assertEqual(str(ran), repr(ran))
+
     def test_announced_pairs(self) -> None:
         announced = trammelbud.check(GRAPH, trammelbud.translate(GRAPH, query(5)))
         self.assertEqual(announced.pairs(0), {(kind, kind) for kind in (0, 1, 2, 3, 16)})

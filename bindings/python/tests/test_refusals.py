@@ -1,5 +1,7 @@
 """Each refusal, and what a refused call leaves."""
 
+from __future__ import annotations
+
 import unittest
 from typing import Callable
 
@@ -8,7 +10,7 @@ from trammelbud import Refusal, Refused
 
 from .example import DOCUMENT, GRAPH, TABLES, query, with_mark
 
-# Four // in a chain of child tests take 29 steps.
+# Nine nodes, and five steps more for each of four //: 29.
 TOO_MANY_STEPS = with_mark("QRY", *[5] * 4, *[2, 0] * 5)
 
 

@@ -1,7 +1,8 @@
 """The calls with their results as Python values.
 
 Files go in as bytes: `gra` a graph, `tre` a document, `edg` tables, `qry` a
-query, `rel` a program. A call that turns its input away raises `Refused`.
+query, `rel` a program. A call that turns its input away raises `Refused`; what
+isn't bytes-like is a `TypeError`.
 """
 
 from __future__ import annotations
@@ -9,8 +10,9 @@ from __future__ import annotations
 from dataclasses import dataclass
 
 from . import lending
-from .lending import Bytes, accept, call, given
-from .library import KINDS, LIBRARY, MOST_STEPS
+from .buffers import Bytes
+from .lending import answer, call
+from .library import KINDS, MOST_STEPS
 
 STEP_ROOM = 2048
 
@@ -34,6 +36,9 @@ class Run:
     """The nodes selected, ascending; 0 is the document node."""
     work: bytes
     """The rows of all steps, 2,048 bytes for each."""
+
+    def __repr__(self) -> str:
+        return f"Run(nodes={self.nodes}, steps={self.steps}, work=<{len(self.work)} bytes>)"
 
     @property
     def steps(self) -> int:
@@ -70,27 +75,27 @@ class Announcement:
 
 def read_graph(gra: Bytes) -> int:
     """Reads a graph; answers the number of its types."""
-    return call("tb_read_graph", [gra])
+    return call("tb_read_graph", {"gra": gra})
 
 
 def read_document(gra: Bytes, tre: Bytes) -> int:
     """Reads a document; answers the number of its elements."""
-    return call("tb_read_document", [gra, tre])
+    return call("tb_read_document", {"gra": gra, "tre": tre})
 
 
 def read_tables(gra: Bytes, edg: Bytes) -> int:
     """Reads tables; answers the number of their elements."""
-    return call("tb_read_tables", [gra, edg])
+    return call("tb_read_tables", {"gra": gra, "edg": edg})
 
 
 def read_query(gra: Bytes, qry: Bytes) -> int:
     """Reads a query; answers the number of its nodes."""
-    return call("tb_read_query", [gra, qry])
+    return call("tb_read_query", {"gra": gra, "qry": qry})
 
 
 def read_program(gra: Bytes, rel: Bytes) -> int:
     """Reads a program; answers the number of its steps."""
-    return call("tb_read_program", [gra, rel])
+    return call("tb_read_program", {"gra": gra, "rel": rel})
 
 
 def shred(gra: Bytes, tre: Bytes) -> bytes:
@@ -113,8 +118,7 @@ def translate(gra: Bytes, qry: Bytes) -> bytes:
 
 def check(gra: Bytes, rel: Bytes) -> Announcement:
     """Which kinds each step of a program may join, from the graph alone."""
-    checked = LIBRARY.tb_check(*given([gra, rel]))
-    accept(checked.number)
+    checked = answer("tb_check", {"gra": gra, "rel": rel}, {})
     return Announcement(tuple(tuple(step.pairs) for step in checked.steps))
 
 

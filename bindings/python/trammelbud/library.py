@@ -51,7 +51,18 @@ _CALLS = {
 
 def _load() -> ctypes.CDLL:
     beside = Path(__file__).with_name("libtrammelbud.so")
-    library = ctypes.CDLL(os.environ.get("TRAMMELBUD_SO", str(beside)))
+    path = os.environ.get("TRAMMELBUD_SO", str(beside))
+    try:
+        return _declared(ctypes.CDLL(path))
+    except (OSError, AttributeError) as error:
+        raise ImportError(
+            f"no shared library of Trammelbud at {path!r} ({error}): set TRAMMELBUD_SO to its "
+            "path; `rt staticlib trammelbud`, then `bash bindings/python/test` build it as "
+            "target/python/libtrammelbud.so"
+        ) from error
+
+
+def _declared(library: ctypes.CDLL) -> ctypes.CDLL:
     for name, (files, buffers) in _CALLS.items():
         call = getattr(library, name)
         file = [ctypes.c_char_p, ctypes.c_size_t]

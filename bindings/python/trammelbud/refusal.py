@@ -28,18 +28,20 @@ class Refusal(IntEnum):
 
 
 _MEANINGS = {
-    Refusal.ENDED: "the bytes end inside a field, or before the file is complete",
-    Refusal.MARK: "wrong mark",
-    Refusal.VERSION: "version not 1",
-    Refusal.BOUND: "a bound is passed, a count is 0 that may not be, "
-    "or k of the tables isn't the graph's",
-    Refusal.CODE: "unknown code, or a code not allowed at that place",
-    Refusal.TYPE: "a type, a root or a mask bit of k or more",
-    Refusal.EDGE: "root type wrong, edge not in the graph, or a first token that closes",
-    Refusal.ROW: "a wrong number or parent in the tables",
-    Refusal.OPERAND: "an operand not below its own step",
-    Refusal.EXTRA: "bytes after the end, or an unused x or y not 0",
-    Refusal.STEPS: "more than 24 steps needed",
+    Refusal.ENDED: "the file stops too early, inside a field or between two",
+    Refusal.MARK: "its first three letters are not its mark",
+    Refusal.VERSION: "its version is another than 1",
+    Refusal.BOUND: "more types, elements, query nodes or steps than there may be, "
+    "no type, no step or no row at all, or tables for another k than the graph's",
+    Refusal.CODE: "a code that means nothing where it stands",
+    Refusal.TYPE: "a type, the root or a bit of a mask is past the graph's last type",
+    Refusal.EDGE: "element 1 is not of the root type, an element may not be its parent's child, "
+    "or the document begins with a close",
+    Refusal.ROW: "a row of the tables has a wrong number or a wrong parent",
+    Refusal.OPERAND: "a step reads its own result or a later one's",
+    Refusal.EXTRA: "the file goes on past its end, or has an x or y other than 0 "
+    "where the operation uses none",
+    Refusal.STEPS: "the query would take more than 24 steps",
     Refusal.ROOM: "a lent buffer is too short",
 }
 

@@ -1,4 +1,4 @@
-//! The bounds of 01.
+//! The bounds of docs/RULES.md (1.4).
 
 /// Types of a graph, k.
 pub const MOST_TYPES: u8 = 16;

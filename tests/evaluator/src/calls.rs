@@ -10,8 +10,8 @@ use crate::refusal::{File, Refusal};
 pub struct Answer {
     pub number: u8,
     pub count: u32,
-    /// The file that was turned away. Not part of 01's answer: the comparison
-    /// counts by it what it has met.
+    /// The file that was turned away. No call of the library answers it: the
+    /// comparison counts by it what it has met.
     pub file: Option<File>,
 }
 

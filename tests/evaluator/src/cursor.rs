@@ -25,12 +25,9 @@ impl<'a> Cursor<'a> {
 
     /// A field of N bytes, once all of them are there.
     pub fn field<const N: usize>(&mut self) -> Result<[u8; N], Refusal> {
-        let (field, rest) = self
-            .rest
-            .split_first_chunk::<N>()
-            .ok_or(self.refuse(Cause::Ended))?;
-        self.rest = rest;
-        Ok(*field)
+        let field = self.rest.get(..N).ok_or(self.refuse(Cause::Ended))?;
+        self.rest = &self.rest[N..];
+        Ok(field.try_into().expect("a field of N bytes"))
     }
 
     pub fn byte(&mut self) -> Result<u8, Refusal> {

@@ -1,4 +1,4 @@
-//! The example of 01: one document, fourteen queries.
+//! The example of docs/RULES.md, section 18: a document and fourteen queries.
 
 use crate::cursor::opening;
 use crate::document::Document;

@@ -1,6 +1,6 @@
 //! An evaluator of Trammelbud's public calls that shares nothing with the
-//! library: it is written from document 01 and XPath 1.0 alone, to be compared
-//! with it.
+//! library: it follows the rules of docs/RULES.md and XPath 1.0 alone, to be
+//! compared with it.
 //!
 //! It goes the plain way wherever there is one. A document is a tree of nodes
 //! with lists of children, a query is walked over it node by node, and a
@@ -25,7 +25,7 @@ pub mod refusal;
 pub mod relation;
 pub mod runner;
 pub mod tables;
-#[cfg(archive)]
+#[cfg(feature = "archive")]
 pub mod trammelbud;
 pub mod translate;
 pub mod tree;

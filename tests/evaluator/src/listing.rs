@@ -4,8 +4,8 @@ use crate::bits;
 use crate::document::Document;
 use std::fmt::Write;
 
-/// The count, then a line of number, type and text number for each node. The
-/// document node has kind 16 and text 0, so its line is `0 16 0`.
+/// How many nodes there are, and a line for each. The document node has kind 16
+/// and text 0, so its line is `0 16 0`.
 pub fn text(document: &Document, nodes: u128) -> String {
     let mut text = format!("selected {}\n", nodes.count_ones());
     for number in bits::ones(nodes) {

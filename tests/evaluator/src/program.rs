@@ -5,7 +5,7 @@ use crate::cursor::{opening, Cursor};
 use crate::graph::Graph;
 use crate::refusal::{Cause, File, Refusal};
 
-/// The operations of 01.
+/// The operations of docs/RULES.md (5.4).
 pub mod op {
     pub const TABLE: u8 = 0x01;
     pub const OWN: u8 = 0x02;

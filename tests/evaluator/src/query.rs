@@ -5,7 +5,7 @@ use crate::cursor::Cursor;
 use crate::graph::Graph;
 use crate::refusal::{Cause, File, Refusal};
 
-/// The codes of 01, by the names of what they stand for.
+/// The codes of docs/RULES.md (4.2, 4.3), by the names of what they stand for.
 pub mod code {
     pub const OWN: u8 = 0x01;
     pub const CHILD: u8 = 0x02;

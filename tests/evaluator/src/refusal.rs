@@ -1,30 +1,33 @@
 //! Why a call turns its input away.
 
-/// The causes of 01, by its numbers.
+/// The causes of docs/RULES.md, section 15, by their numbers.
 #[derive(Clone, Copy, PartialEq, Eq, Debug)]
 #[repr(u8)]
 pub enum Cause {
-    /// The bytes end inside a field, or before the file is complete.
+    /// The file stops too early, inside a field or between two.
     Ended = 1,
-    /// Wrong mark.
+    /// Its first three letters are not its mark.
     Mark = 2,
-    /// Version not 1.
+    /// Its version is another than 1.
     Version = 3,
-    /// A bound is passed, a count is 0 that may not be, or EDG's k isn't the graph's.
+    /// More than there may be, none where one has to be, or tables for another k
+    /// than the graph's.
     Bound = 4,
-    /// Unknown code, or a code not allowed at that place.
+    /// A code that means nothing where it stands.
     Code = 5,
-    /// A type, root or mask bit of k or more.
+    /// A type, the root or a bit of a mask is past the graph's last type.
     Type = 6,
-    /// Root type wrong, edge not in the graph, or a first token that closes.
+    /// Element 1 is not of the root type, an element may not be its parent's
+    /// child, or the document begins with a close.
     Edge = 7,
-    /// A wrong number or parent in EDG.
+    /// A row of the tables has a wrong number or a wrong parent.
     Row = 8,
-    /// An operand not below its own step.
+    /// A step reads its own result or a later one's.
     Operand = 9,
-    /// Bytes after the end, or an unused x or y not 0.
+    /// The file goes on past its end, or has an x or y other than 0 where the
+    /// operation uses none.
     Extra = 10,
-    /// More than 24 steps needed.
+    /// The query would take more than 24 steps.
     Steps = 11,
     /// A lent buffer is too short.
     Room = 12,

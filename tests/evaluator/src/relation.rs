@@ -71,8 +71,8 @@ impl Relation {
         Relation::identity((0..MOST_NODES).filter(|&v| self.from(v) != 0))
     }
 
-    /// The rows as a run leaves them: 16 bytes for each v, and (v, w) is bit
-    /// w mod 8, lowest first, of byte w div 8.
+    /// The rows as a run leaves them: 16 bytes for each v, whose bits, the lowest
+    /// of the first byte first, are those of w from 0 to 127.
     pub fn bytes(&self) -> impl Iterator<Item = [u8; 16]> + '_ {
         self.rows.iter().map(|row| row.to_le_bytes())
     }

@@ -42,7 +42,7 @@ fn table(document: &Document, mask: u16) -> Relation {
     rows
 }
 
-/// The answer: each w with (0, w) in the last step.
+/// The answer: the nodes to which the last step has a row from node 0.
 pub fn selected(steps: &[Relation]) -> u128 {
     steps.last().map_or(0, |last| last.from(ROOT))
 }

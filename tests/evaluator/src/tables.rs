@@ -79,8 +79,8 @@ fn assemble(graph: &Graph, rows: &[Row]) -> Result<Document, Refusal> {
     Ok(document)
 }
 
-/// The parent rule: 0 for element 1, and for element i above 1 either i-1 or
-/// an ancestor of i-1, never 0.
+/// The parent rule: element 1 has parent 0, and any other element has the one
+/// before it as its parent or one of those that this one is in.
 fn parent_fits(rows: &[Row], row: &Row) -> bool {
     if row.to == 1 {
         return row.from == ROOT;

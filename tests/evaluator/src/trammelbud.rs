@@ -7,7 +7,7 @@
 //! call under the same names.
 
 /// What a call answers: `number` is 0 where it accepts, else the refusal, and
-/// then `count` is 0 and every lent buffer has the bytes it came with.
+/// then `count` is 0 and every lent buffer is as it was.
 #[repr(C)]
 #[derive(Clone, Copy, PartialEq, Eq, Debug)]
 pub struct Answer {

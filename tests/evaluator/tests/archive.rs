@@ -1,6 +1,6 @@
 //! The example through the library itself, as a Rust program calls it. Built
 //! only where the archive is given.
-#![cfg(archive)]
+#![cfg(feature = "archive")]
 
 mod common;
 

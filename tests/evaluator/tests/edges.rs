@@ -1,4 +1,5 @@
-//! The edges that 01 names, and what it says of rooms and rows.
+//! What docs/RULES.md says of bounds that are just kept or passed (18.8 to
+//! 18.12), of rooms and of rows.
 
 mod common;
 
@@ -113,7 +114,7 @@ fn a_mask_of_0_yields_no_rows() {
 }
 
 #[test]
-fn rows_lie_where_01_says() {
+fn a_row_is_one_bit_of_its_steps_room() {
     let edg = shredded(&loop_graph(), &chain(127));
     // TABLE of all, then its closure.
     let program = rel(&[2, 1, 0, 1, 6, 0, 0]);

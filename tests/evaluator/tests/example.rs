@@ -1,4 +1,5 @@
-//! The example of 01, by the walk over the tree and by translating and running.
+//! The example of docs/RULES.md, section 18, by the walk over the tree and by
+//! translating and running.
 
 mod common;
 
@@ -79,7 +80,7 @@ fn station_announces_nothing() {
     let rel = translated(&example::queries()[2]);
     let checked = calls::check(&example::gra(), &rel);
     assert_eq!(checked.number, 0);
-    assert!(checked.steps.as_flattened().iter().all(|&kinds| kinds == 0));
+    assert!(checked.steps.iter().flatten().all(|&kinds| kinds == 0));
 }
 
 #[test]
@@ -98,7 +99,7 @@ fn fifth_query_takes_the_printed_steps() {
     ];
     let rel = translated(fifth);
     assert_eq!(rel[5], 8);
-    assert_eq!(rel[6..], *steps.as_flattened());
+    assert_eq!(rel[6..], steps.concat());
 }
 
 /// No type or text number of the example has a byte that is also the code of
@@ -157,8 +158,5 @@ fn fifth_query_announces_its_pairs() {
     assert_eq!([at(2, 16), at(2, 0), at(2, 2)], [0xF, 0xE, 0xC]);
     assert_eq!([at(5, 16), at(7, 16)], [0x1000F, 4]);
     assert_eq!([at(7, 1), at(7, 3)], [4, 4]);
-    assert!(checked.steps[8..]
-        .as_flattened()
-        .iter()
-        .all(|&kinds| kinds == 0));
+    assert!(checked.steps[8..].iter().flatten().all(|&kinds| kinds == 0));
 }

@@ -38,7 +38,7 @@ fn program() {
     ];
     assert_eq!(
         file("program.rel"),
-        [b"REL\x00\x01\x08", steps.as_flattened()].concat()
+        [&b"REL\x00\x01\x08"[..], &steps.concat()].concat()
     );
 }
 

@@ -294,5 +294,5 @@ fn program_ends_are_1_and_10() {
 fn a_refused_check_announces_nothing() {
     let checked = calls::check(&two_types(), &rel(&[1, 2, 0, 0, 2]));
     assert_eq!(checked.number, 10);
-    assert!(checked.steps.as_flattened().iter().all(|&kinds| kinds == 0));
+    assert!(checked.steps.iter().flatten().all(|&kinds| kinds == 0));
 }

@@ -109,5 +109,5 @@ fn seed(gra: &[u8], tre: &[u8], qry: &[u8], rel: &[u8]) -> Vec<u8> {
     let edg = tables::write(&graph, &document);
     let files = [gra, tre, &edg, qry, rel];
     let lengths = files.map(|file| (file.len() as u16).to_be_bytes());
-    [&[0], lengths.as_flattened(), &files.concat()].concat()
+    [&[0][..], &lengths.concat(), &files.concat()].concat()
 }

@@ -22,11 +22,11 @@ struct Case {
 
 fn main() -> ExitCode {
     let words: Vec<String> = env::args().skip(1).collect();
-    let [program] = &words[..] else {
+    if words.len() != 1 {
         eprintln!("listings PROGRAM");
         return ExitCode::from(2);
-    };
-    match run(Path::new(program)) {
+    }
+    match run(Path::new(&words[0])) {
         Ok(0) => ExitCode::SUCCESS,
         Ok(_) => ExitCode::FAILURE,
         Err(error) => {
@@ -77,11 +77,9 @@ fn printed_by(program: &PathBuf, folder: &Path, files: &Files) -> Result<Vec<u8>
     Ok(Command::new(program).current_dir(folder).output()?.stdout)
 }
 
-/// What 01 says is printed: a missing file counts as empty.
+/// What has to be printed. A file that isn't there has no bytes.
 fn listing(files: &Files) -> Vec<u8> {
-    let [gra, edg, qry] = files
-        .each_ref()
-        .map(|file| file.as_deref().unwrap_or_default());
+    let [gra, edg, qry] = [0, 1, 2].map(|at| files[at].as_deref().unwrap_or_default());
     let mut text = vec![0; 4096];
     let mut work = vec![0; 24 * 2048];
     let answer = calls::list(gra, edg, qry, &mut text, &mut work);
@@ -116,7 +114,7 @@ fn case(name: String, files: [Vec<u8>; 3]) -> Case {
     }
 }
 
-/// The fourteen queries of 01.
+/// The fourteen queries of the example.
 fn queries() -> Vec<Case> {
     example::queries()
         .into_iter()
@@ -178,7 +176,8 @@ fn longer() -> Vec<Case> {
     cases
 }
 
-/// 01's edges: three // take 22 steps, four 29; 24 nodes with one not take 25.
+/// Queries about as long as may be: three // are 22 steps, four are 29, and a
+/// `not` makes 25 of 24 nodes.
 fn edges() -> Vec<Case> {
     let slashes = |count: usize| [vec![5; count], [2, 2].repeat(count + 1)].concat();
     let not = [vec![4; 10], vec![7, 1, 0x13, 0x12, 0, 7], vec![1; 10]].concat();

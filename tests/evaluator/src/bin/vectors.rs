@@ -15,11 +15,11 @@ const WORDS: usize = 6;
 
 fn main() -> ExitCode {
     let words: Vec<String> = env::args().skip(1).collect();
-    let [folder] = &words[..] else {
+    if words.len() != 1 {
         eprintln!("vectors FOLDER");
         return ExitCode::from(2);
-    };
-    match printed(Path::new(folder)) {
+    }
+    match printed(Path::new(&words[0])) {
         Ok(text) => {
             print!("{text}");
             ExitCode::SUCCESS

@@ -56,8 +56,9 @@ pub fn double_slashes(count: usize) -> Vec<u8> {
     [vec![5; count], [2, 0].repeat(count + 1)].concat()
 }
 
-/// Each of 01's fourteen queries, put to a call of `select`'s shape, which
-/// answers number and count, selects the nodes that 01 prints.
+/// Each of the example's fourteen queries, put to a call of `select`'s shape,
+/// which answers number and count, selects the nodes that docs/RULES.md prints
+/// (18.5).
 pub fn selects_as_printed(select: impl Fn(&[u8], &[u8], &[u8], &mut [u8], &mut [u8]) -> (u8, u32)) {
     for (case, asked) in (1..).zip(example::queries()) {
         let (mut out, mut work) = ([0; 9], [0; 24 * 2048]);

@@ -55,9 +55,7 @@ fn walk_and_program_agree() {
 #[test]
 fn rows_join_announced_pairs() {
     for (case, outcome) in accepted(Call::Run, 5_000) {
-        let [gra, edg, rel] = &case.files[..] else {
-            unreachable!("a run takes three files")
-        };
+        let (gra, edg, rel) = (&case.files[0], &case.files[1], &case.files[2]);
         let announced = calls::check(gra, rel).steps;
         let graph = Graph::read(gra).expect("the run was accepted");
         let document = tables::read(&graph, edg).expect("the run was accepted");

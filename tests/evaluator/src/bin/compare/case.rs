@@ -86,11 +86,13 @@ impl Expectation {
                 settle(plan, &mut buffers).map(|count| outcome.count = count)
             }
         };
-        let Err(refusal) = settled else {
-            return (outcome, None);
-        };
-        outcome.number = refusal.cause as u8;
-        (outcome, refusal.file)
+        match settled {
+            Ok(()) => (outcome, None),
+            Err(refusal) => {
+                outcome.number = refusal.cause as u8;
+                (outcome, refusal.file)
+            }
+        }
     }
 }
 

@@ -5,11 +5,11 @@
 //! so does a number that a call can give and never gave.
 
 // Without the archive there is only the self-test.
-#![cfg_attr(not(archive), allow(dead_code))]
+#![cfg_attr(not(feature = "archive"), allow(dead_code))]
 
 #[cfg(test)]
 mod agreement;
-#[cfg(archive)]
+#[cfg(feature = "archive")]
 mod archive;
 mod arguments;
 mod call;
@@ -34,25 +34,30 @@ use stream::Stream;
 use tally::Tally;
 
 fn main() -> ExitCode {
-    let Some(arguments) = Arguments::read(std::env::args().skip(1)) else {
-        eprintln!("{USAGE}");
-        return ExitCode::from(2);
-    };
-    println!("seed {}", arguments.seed);
-    let passed = if arguments.self_test {
-        mutants::all_noticed(arguments.seed)
-    } else {
-        with_archive(&arguments)
-    };
-    ExitCode::from(!passed as u8)
+    match Arguments::read(std::env::args().skip(1)) {
+        Some(arguments) => ExitCode::from(!passed(&arguments) as u8),
+        None => {
+            eprintln!("{USAGE}");
+            ExitCode::from(2)
+        }
+    }
 }
 
-#[cfg(archive)]
+fn passed(arguments: &Arguments) -> bool {
+    println!("seed {}", arguments.seed);
+    if arguments.self_test {
+        mutants::all_noticed(arguments.seed)
+    } else {
+        with_archive(arguments)
+    }
+}
+
+#[cfg(feature = "archive")]
 fn with_archive(arguments: &Arguments) -> bool {
     compare(arguments, archive::outcome)
 }
 
-#[cfg(not(archive))]
+#[cfg(not(feature = "archive"))]
 fn with_archive(_: &Arguments) -> bool {
     eprintln!("built without the archive: build with its folder in TRAMMELBUD_LIB");
     false

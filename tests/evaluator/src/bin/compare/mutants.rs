@@ -96,7 +96,7 @@ const RUNNERS: [Call; 2] = [Call::Run, Call::Select];
 const WORKERS: [Call; 3] = [Call::Run, Call::Select, Call::List];
 const WRITERS: [Call; 3] = [Call::Shred, Call::Rebuild, Call::Translate];
 
-/// The stand-ins that 01 names come first.
+/// The stand-ins that docs/RULES.md names (17.16) come first.
 const MUTANTS: &[Mutant] = &[
     Mutant {
         name: "a reader that refuses all",
@@ -169,8 +169,8 @@ const MUTANTS: &[Mutant] = &[
         spoil: |_, outcome| {
             outcome
                 .announced
-                .as_flattened_mut()
                 .iter_mut()
+                .flatten()
                 .for_each(|kinds| *kinds &= !0x8000)
         },
     },

@@ -57,17 +57,16 @@ impl Reach {
 
     /// Looks into an accepted case.
     pub fn look(&mut self, case: &Case, outcome: &Outcome) {
-        let Ok(graph) = Graph::read(&case.files[0]) else {
-            return;
-        };
+        let accepted = "the case was accepted";
+        let graph = Graph::read(&case.files[0]).expect(accepted);
         self.graph(&graph);
         for (file, bytes) in case.call.files().iter().zip(&case.files) {
             match file {
                 File::Graph => {}
-                File::Document => self.document(tree::read(&graph, bytes).ok()),
-                File::Tables => self.document(tables::read(&graph, bytes).ok()),
-                File::Query => self.query(Query::read(&graph, bytes).ok()),
-                File::Program => self.program(program::read(&graph, bytes).ok()),
+                File::Document => self.document(&tree::read(&graph, bytes).expect(accepted)),
+                File::Tables => self.document(&tables::read(&graph, bytes).expect(accepted)),
+                File::Query => self.query(&Query::read(&graph, bytes).expect(accepted)),
+                File::Program => self.program(&program::read(&graph, bytes).expect(accepted)),
             }
         }
         match case.call {
@@ -97,8 +96,7 @@ impl Reach {
         self.note(graph.live().0.count_ones() <= graph.types().into(), dead);
     }
 
-    fn document(&mut self, document: Option<Document>) {
-        let Some(document) = document else { return };
+    fn document(&mut self, document: &Document) {
         let [one, chain, star, types, none, last] = DOCUMENTS;
         let elements = || {
             document
@@ -117,8 +115,7 @@ impl Reach {
         self.note(elements().any(|node| node.text == 0xFFFF), last);
     }
 
-    fn query(&mut self, query: Option<Query>) {
-        let Some(query) = query else { return };
+    fn query(&mut self, query: &Query) {
         self.note(query.nodes == MOST_QUERY_NODES, "query of 24 nodes");
         let mut codes = Vec::new();
         path_codes(&query.path, &mut codes);
@@ -127,10 +124,9 @@ impl Reach {
         }
     }
 
-    fn program(&mut self, steps: Option<Vec<Step>>) {
-        let Some(steps) = steps else { return };
+    fn program(&mut self, steps: &[Step]) {
         self.note(steps.len() == MOST_STEPS, "program of 24 steps");
-        let bytes = program::write(&steps);
+        let bytes = program::write(steps);
         for (operation, name) in OPERATIONS {
             self.note(bytes[6..].chunks(3).any(|step| step[0] == operation), name);
         }

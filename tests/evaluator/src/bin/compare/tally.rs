@@ -7,7 +7,7 @@ use crate::reach::Reach;
 use evaluator::refusal::File;
 use std::collections::BTreeMap;
 
-/// The numbers of 01, 0 for accepted.
+/// The numbers of the refusals, and 0 for accepted.
 const NUMBERS: usize = 13;
 
 pub struct Tally {

@@ -103,7 +103,10 @@ pub fn grow(rng: &mut Rng, graph: &Graph, texts: &[u16], count: usize) -> Vec<El
                 (!places.is_empty()).then(|| *rng.pick(&places))
             }
         };
-        let Some(place) = place else { break };
+        let place = match place {
+            Some(place) => place,
+            None => break,
+        };
         let parent = open[place];
         let mask = graph.children(elements[parent - 1].kind).types();
         add(rng, &mut elements, parent, mask, texts);
@@ -160,7 +163,7 @@ pub fn edg(tables: &[Rows]) -> Vec<u8> {
     bytes.push(tables.len() as u8);
     for rows in tables {
         bytes.push(rows.len() as u8);
-        bytes.extend(rows.as_flattened());
+        bytes.extend(rows.concat());
     }
     bytes
 }

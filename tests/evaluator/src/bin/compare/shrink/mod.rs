@@ -98,7 +98,7 @@ impl<D: Fn(&Case) -> bool> Search<D> {
                 if self.attempt(|case| drop(case.files[file].drain(at..at + length))) {
                     shorter = true;
                 } else {
-                    at += length.div_ceil(4);
+                    at += (length + 3) / 4;
                 }
             }
             length = if length > 16 { length / 2 } else { length - 1 };

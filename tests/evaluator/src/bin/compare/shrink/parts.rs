@@ -75,7 +75,7 @@ fn without_step(rel: &[u8], step: usize) -> Option<Vec<u8>> {
     }
     let mut bytes = rel[..BODY].to_vec();
     bytes.push(steps.len() as u8);
-    bytes.extend(steps.as_flattened());
+    bytes.extend(steps.concat());
     Some(bytes)
 }
 
@@ -103,13 +103,14 @@ fn read_tables(bytes: &[u8]) -> Option<Vec<Rows>> {
     let mut tables = Vec::new();
     for _ in 0..types {
         let (&count, after) = rest.split_first()?;
-        let (rows, after) = after.split_at_checked(4 * usize::from(count))?;
+        let length = 4 * usize::from(count);
+        let rows = after.get(..length)?;
         tables.push(
             rows.chunks_exact(4)
                 .map(|r| [r[0], r[1], r[2], r[3]])
                 .collect(),
         );
-        rest = after;
+        rest = &after[length..];
     }
     rest.is_empty().then_some(tables)
 }
