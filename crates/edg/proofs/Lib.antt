@@ -3,3 +3,4 @@ pub mod Numbers
 pub mod Tabling
 pub mod Rows
 pub mod File
+pub mod Reasons

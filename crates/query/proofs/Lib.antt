@@ -2,3 +2,4 @@ pub mod Parts
 pub mod Laws
 pub mod Written
 pub mod File
+pub mod Reasons

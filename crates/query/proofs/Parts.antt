@@ -15,6 +15,7 @@ use Rattle.meaning.specs.Queries.{pathCount, qualifierCount, LegalPath, LegalQu
 use Rattle.fields.specs.Read.{Read, Reader, _>>=_, got, refused, bind, pick, header, end}
 use Rattle.fields.specs.Write.{byteOf}
 use Rattle.fields.proofs.Formats.{Accepts, Takes, accepts-bind, takes-bind, accepts-give, accepts-refuse, accepts-pick, takes-judged, takes-byte, takes-word, takes-weaken, refused-out}
+use Rattle.fields.proofs.Reasons.{OfFile, of-judged, of-byte, of-word}
 use Rattle.query.specs.Qry.{Sort, path, qualifier, Tree, PartReader, Follows, leaf, field, one, two, unknown, codes, following, nodeCode, here, part, queryFile, pathBytes, qualifierBytes}
 
 -- how many nodes a part has, its bytes, and which are legal
@@ -50,11 +51,12 @@ module _ {σ : Sort} {n : ℕ} where
   after-field (got a at) g f = f a at
   after-field (refused r) g f = ended
 
--- a line of the table of codes: what is made has one node more than its parts, the code before their bytes, and is legal where they are
+-- a line of the table of codes: what is made has one node more than its parts, the code before their bytes, and is legal where they are;
+-- what turns its field away has a number up to 10
 pub data Row (k : ℕ) (σ : Sort) (c : ℕ) : Follows σ → Type 0 where
   leaf-row : {t : Tree σ} → nodeCount σ t ≡ 1 → byteOf c ≡ bytes σ t → Legal k σ t → Row k σ c (leaf t)
   field-row : {m : Reader ℕ} {f : ℕ → Tree σ}
-      → ((v : ℕ) → nodeCount σ (f v) ≡ 1) → Accepts m (λ v b. (byteOf c ++ b ≡ bytes σ (f v)) × Legal k σ (f v)) → Row k σ c (field m f)
+      → ((v : ℕ) → nodeCount σ (f v) ≡ 1) → Accepts m (λ v b. (byteOf c ++ b ≡ bytes σ (f v)) × Legal k σ (f v)) → OfFile m → Row k σ c (field m f)
   one-row : {τ : Sort} {f : Tree τ → Tree σ}
       → ((a : Tree τ) → (nodeCount σ (f a) ≡ 1 + nodeCount τ a) × (byteOf c ++ bytes τ a ≡ bytes σ (f a)) × (Legal k τ a → Legal k σ (f a))) → Row k σ c (one τ f)
   two-row : {τ υ : Sort} {f : Tree τ → Tree υ → Tree σ}
@@ -74,7 +76,7 @@ pub code-rows : (k : ℕ) (σ : Sort) (c : ℕ) → Row k σ c (codes k σ c)
 unfolding pathCount qualifierCount pathBytes qualifierBytes LegalPath LegalQualifier
 code-rows k path c =
     row 0x01 (leaf-row refl refl tt)
-    (row 0x02 (field-row (λ v. refl) (takes-weaken (takes-judged _ Kind takes-byte) λ t l. (refl, ltb-true t k (l .1))))
+    (row 0x02 (field-row (λ v. refl) (takes-weaken (takes-judged _ Kind takes-byte) λ t l. (refl, ltb-true t k (l .1))) (of-judged Kind (omega arith) _ of-byte))
     (row 0x03 (leaf-row refl refl tt)
     (row 0x04 (two-row λ a b. (refl, refl, λ h i. (h, i)))
     (row 0x05 (two-row λ a b. (refl, refl, λ h i. (h, i)))
@@ -83,7 +85,7 @@ code-rows k path c =
     no-row))))))
 code-rows k qualifier c =
     row 0x11 (one-row λ a. (refl, refl, λ h. h))
-    (row 0x12 (field-row (λ v. refl) (takes-weaken takes-word λ t l. (refl, l)))
+    (row 0x12 (field-row (λ v. refl) (takes-weaken takes-word λ t l. (refl, l)) of-word)
     (row 0x13 (one-row λ a. (refl, refl, λ h. h))
     (row 0x14 (two-row λ a b. (refl, refl, λ h i. (h, i)))
     (row 0x15 (two-row λ a b. (refl, refl, λ h i. (h, i)))
@@ -92,7 +94,7 @@ code-rows k qualifier c =
 following-right : {k : ℕ} {σ : Sort} {c : ℕ} {parts : (τ : Sort) → PartReader τ} {r : Follows σ}
     → ((τ : Sort) → Right k τ [] (parts τ)) → (place : ℕ) → Row k σ c r → Right k σ (byteOf c) (following parts place r)
 following-right P place (leaf-row {t} h e l) = record { counts = λ n s at. counted {p = (t, n)} (omega arith); accepts = λ n. accepts-give (e, l) }
-following-right P place (field-row {m} {f} h A) = record {
+following-right P place (field-row {m} {f} h A _) = record {
   counts = λ n s at. after-field (m s at) _ λ v i. counted {p = (f v, n)} (omega (arith, h v));
   accepts = λ n. accepts-bind A λ v b e. accepts-give (rw (append-nil b) (e .0), e .1);
 }

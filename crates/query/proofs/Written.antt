@@ -40,7 +40,7 @@ module _ {k : ℕ} {σ : Sort} {c : ℕ} where
 
   field-written : {m : Reader ℕ} {g : ℕ → Tree σ} {e : List ℕ} {v : ℕ} → Row k σ c (field m g) → codes k σ c ≡ field m g
       → Reads m e v → byteOf c ++ e ≡ bytes σ (g v) → Written k σ (g v)
-  field-written {g = g} {e} {v} (field-row more _) h M same =
+  field-written {g = g} {e} {v} (field-row more _ _) h M same =
       node-written 0 e (more v) same h λ place f n l i le. let j : l ≡ n = omega arith in rw j (reads-last _ M (reads-give (g v, n)))
 
   module _ {τ : Sort} {a : Tree τ} where

@@ -1,3 +1,4 @@
 pub mod Laws
 pub mod File
 pub mod Encoded
+pub mod Reasons
