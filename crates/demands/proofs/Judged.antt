@@ -50,37 +50,55 @@ in-table Room = (omega arith, omega arith)
 -- counts; or not, and it answers a number of the table and keeps what it was lent.
 pub data Judged {U : Type 0} (e : Read U) (Fits : U → Type 0) (counts : U → ℕ) (Stays : Type 0) (a : Answer) : Type 0 where
   fitted : {u : U} → Came e u → Fits u → a ≡ accepted (counts u) → Judged e Fits counts Stays a
-  short : {u : U} → Came e u → (Fits u → ⊥) → (r : Refusal) → a ≡ turnedAway r → Stays → Judged e Fits counts Stays a
+  short : {u : U} → Came e u → (Fits u → ⊥) → a ≡ turnedAway (record { reason = Room }) → Stays → Judged e Fits counts Stays a
   turned : {r : Refusal} → e ≡ refused r → a ≡ turnedAway r → Stays → Judged e Fits counts Stays a
 
 pub kept : {U : Type 0} {e : Read U} {Fits : U → Type 0} {counts : U → ℕ} {Stays : Type 0} {a : Answer} → Judged e Fits counts Stays a → 0 < a .number → Stays
 kept (fitted c f is) h = absurd (omega (arith, h, ap (λ a. a .number) is))
-kept (short c f r is k) h = k
+kept (short c f is k) h = k
 kept (turned c is k) h = k
 
 one-came : {U : Type 0} {e : Read U} {u v : U} → Came e u → Came e v → u ≡ v
 one-came (m, p) (n, q) = got-same (sym p ∙ q) .0
 
--- what a call takes is what its reading gives and what fits
-pub record Taken {U X : Type 0} (e : Read U) (Fits : U → Type 0) (counts : U → ℕ) (Takes : X → Type 0) (count : X → ℕ) : Type 0 where
-  pub there : (x : X) → Takes x → (u : U) × Came e u × Fits u × (counts u ≡ count x)
-  pub back : {u : U} → Came e u → Fits u → (x : X) × Takes x
+-- what a call takes is what its reading gives and what fits; what it reads is turned away with a number up to most
+pub record Taken {U X : Type 0} (most : ℕ) (e : Read U) (Fits : U → Type 0) (counts : U → ℕ) (Files Roomed : X → Type 0) (count : X → ℕ) : Type 0 where
+  pub there : (x : X) → Files x → (u : U) × Came e u × (Roomed x → Fits u) × (counts u ≡ count x)
+  pub back : {u : U} → Came e u → (x : X) × Files x × (Fits u → Roomed x) × (Roomed x → Fits u)
+  pub reason : {r : Refusal} → e ≡ refused r → numberOf (r .reason) ≤ most
 
-module _ {U X : Type 0} {e : Read U} {Fits : U → Type 0} {counts : U → ℕ} {Takes : X → Type 0} {count : X → ℕ} (taken : Taken e Fits counts Takes count) where
-  turned-answers : (r : Refusal) → ((x : X) → Takes x → ⊥) → Answers Takes count (turnedAway r)
-  turned-answers r none =
-      record { accepts = λ x t. absurd (none x t); only = λ h. absurd (omega (arith, h, in-table (r .reason) .1)); number = in-table (r .reason) .0; alone = λ h. refl }
+module _ {U X : Type 0} {most : ℕ} {e : Read U} {Fits : U → Type 0} {counts : U → ℕ} {Files Roomed : X → Type 0} {count : X → ℕ} (taken : Taken most e Fits counts Files Roomed count) where
+  turned-answers : (n : ℕ) (r : Refusal) → numberOf (r .reason) ≤ n → ((x : X) → Files x × Roomed x → ⊥) → Answers n (λ x. Files x × Roomed x) count (turnedAway r)
+  turned-answers n r l none = record { accepts = λ x t. absurd (none x t); only = λ h. absurd (omega (arith, h, in-table (r .reason) .1)); number = l; alone = λ h. refl }
 
-  pub answers : {Stays : Type 0} {a : Answer} → Judged e Fits counts Stays a → Answers Takes count a
-  answers (fitted {u} c f is) =
-      rw is record {
-        accepts = λ x t. let (v, d, g, same) = taken .there x t in rw (one-came c d, same);
-        only = λ h. taken .back c f;
-        number = omega arith;
-        alone = λ h. absurd (omega (arith, h));
-      }
-  answers (short {u} c f r is k) = rw is (turned-answers r λ x t. let (v, d, g, same) = taken .there x t in f (rw (one-came d c) at g))
-  answers (turned {r} p is k) = rw is (turned-answers r λ x t. let (v, d, g, same) = taken .there x t in refused-out (sym p ∙ d .1))
+  fitted-answers : (n : ℕ) {u : U} → Came e u → Fits u → Answers n (λ x. Files x × Roomed x) count (accepted (counts u))
+  fitted-answers n c f = record {
+    accepts = λ x t. let (v, d, g, same) = taken .there x (t .0) in rw (one-came c d, same);
+    only = λ h. let (x, files, fits, _) = taken .back c in (x, (files, fits f));
+    number = omega arith;
+    alone = λ h. absurd (omega (arith, h));
+  }
+
+  -- what is not read is not there
+  unread : {r : Refusal} → e ≡ refused r → (x : X) → Files x × Roomed x → ⊥
+  unread p x t = let (v, d, g, same) = taken .there x (t .0) in refused-out (sym p ∙ d .1)
+
+  -- where nothing is lent, all that is read fits
+  pub reader-answers : {Stays : Type 0} {a : Answer} → ((u : U) → Fits u) → Judged e Fits counts Stays a → Answers most (λ x. Files x × Roomed x) count a
+  reader-answers all (fitted c f is) = rw is (fitted-answers most c f)
+  reader-answers all (short {u} c f is k) = absurd (f (all u))
+  reader-answers all (turned {r} p is k) = rw is (turned-answers most r (taken .reason p) (unread p))
+
+  pub answers : {Stays : Type 0} {a : Answer} → Judged e Fits counts Stays a → Answers 12 (λ x. Files x × Roomed x) count a
+  answers (fitted c f is) = rw is (fitted-answers 12 c f)
+  answers (short {u} c f is k) = rw is (turned-answers 12 (record { reason = Room }) (omega arith) λ x t. let (v, d, g, same) = taken .there x (t .0) in f (rw (one-came d c) at (g (t .1))))
+  answers (turned {r} p is k) = rw is (turned-answers 12 r (in-table (r .reason) .0) (unread p))
+
+  -- 12 is for want of room
+  pub for-room : {Stays : Type 0} {a : Answer} → most < 12 → Judged e Fits counts Stays a → a .number ≡ 12 → (x : X) × Files x × (Roomed x → ⊥)
+  for-room l (fitted c f is) h = absurd (omega (arith, h, ap (λ a. a .number) is))
+  for-room l (short c f is k) h = let (x, files, _, fits) = taken .back c in (x, files, λ t. f (fits t))
+  for-room l (turned {r} p is k) h = absurd (omega (arith, h, ap (λ a. a .number) is, taken .reason p))
 
 -- a reader alone: all that it reads fits
 pub read-judged : {U : Type 0} (counts : U → ℕ) (e : Read U) → Judged e (λ u. Unit) counts Unit (answerOf (mapped counts e))
@@ -97,7 +115,7 @@ lent-judged (got file n) out = by-room (leb (length file) (length out)) refl
         → let l = pick {A = Lent} b (record { answer = accepted (length file); bytes = over 0 file out }) (record { answer = turnedAway (record { reason = Room }); bytes = out }) in
         Judged (got file n) (λ file. length file ≤ length out) length (l .bytes ≡ out) (l .answer)
     by-room true e = fitted (n, refl) (leb-true (length file) (length out) e) refl
-    by-room false e = short (n, refl) (λ l. never (sym e ∙ le-leb (length file) (length out) l)) (record { reason = Room }) refl refl
+    by-room false e = short (n, refl) (λ l. never (sym e ∙ le-leb (length file) (length out) l)) refl refl
 lent-judged (refused r) out = turned refl refl refl
 
 -- what is to be left in two buffers
@@ -120,8 +138,8 @@ module _ {U : Type 0} (room : U → ℕ) (bytes : U → List ℕ) (d : U → Vie
           → let r = pick {A = Ran} (a && b) (record { answer = accepted (length (bytes u)); out = over 0 (bytes u) out; work = overwritten (workByte (small .row) (d u) (os u)) (roomBytes (small .row) * length (os u)) work }) (bothUntouched (record { reason = Room }) out work) in
           Judged (got u n) (λ u. Fitting (room u) (os u) out work) (λ u. length (bytes u)) (Both out work r) (r .answer)
       by-room true true e f = fitted (n, refl) (leb-true (room u) (length out) e, leb-true (roomBytes (small .row) * length (os u)) (length work) f) refl
-      by-room true false e f = short (n, refl) (λ l. never (sym f ∙ le-leb (roomBytes (small .row) * length (os u)) (length work) (l .1))) (record { reason = Room }) refl (refl, refl)
-      by-room false b e f = short (n, refl) (λ l. never (sym e ∙ le-leb (room u) (length out) (l .0))) (record { reason = Room }) refl (refl, refl)
+      by-room true false e f = short (n, refl) (λ l. never (sym f ∙ le-leb (roomBytes (small .row) * length (os u)) (length work) (l .1))) refl (refl, refl)
+      by-room false b e f = short (n, refl) (λ l. never (sym e ∙ le-leb (room u) (length out) (l .0))) refl (refl, refl)
   run-judged (refused r) = turned refl refl (refl, refl)
 
 -- past what was written a buffer is as it came
@@ -153,13 +171,14 @@ run-rest room bytes d os out work (got u n) most =
 run-rest room bytes d os out work (refused r) most = record { as-long = refl; stays = λ i l. refl }
 
 -- a check: it answers pairs where it counts nothing
-pub check-judged : {U : Type 0} (Takes : U → Type 0) (e : Read U) (sets : U → List Announced) → ((u : U) → Takes u → Came e u) → ((u : U) → Came e u → Takes u) → Checks Takes (checked (mapped sets e))
+pub check-judged : {U : Type 0} (Takes : U → Type 0) (e : Read U) (sets : U → List Announced) → ((u : U) → Takes u → Came e u) → ((u : U) → Came e u → Takes u)
+    → ((r : Refusal) → e ≡ refused r → numberOf (r .reason) ≤ 10) → Checks Takes (checked (mapped sets e))
 unfolding checked mapped
-check-judged Takes (got u n) sets there back = record { accepts = λ x t. refl; only = λ h. (u, back u (n, refl)); number = omega arith; alone = λ h. absurd (omega (arith, h)) }
-check-judged Takes (refused r) sets there back = record {
+check-judged Takes (got u n) sets there back reason = record { accepts = λ x t. refl; only = λ h. (u, back u (n, refl)); number = omega arith; alone = λ h. absurd (omega (arith, h)) }
+check-judged Takes (refused r) sets there back reason = record {
   accepts = λ x t. refused-out (there x t .1);
   only = λ h. absurd (omega (arith, h, in-table (r .reason) .1));
-  number = in-table (r .reason) .0;
+  number = reason r refl;
   alone = λ h s A B. ap (λ r. r A B) (none-shown stepLimit s);
 }
 
@@ -170,7 +189,7 @@ stored-room file out h = by (lent-judged (got file 0) out) h
   where
     by : {Stays : Type 0} {a : Answer} → Judged (got file 0) (λ file. length file ≤ length out) length Stays a → a .number ≡ 0 → length file ≤ length out
     by (fitted c f is) h = rw (one-came (0, refl) c) f
-    by (short c f r is k) h = absurd (omega (arith, h, ap (λ a. a .number) is, in-table (r .reason) .1))
+    by (short c f is k) h = absurd (omega (arith, h, ap (λ a. a .number) is))
     by (turned p is k) h = refused-out (sym p)
 
 pub leaves-room : (room : ℕ) (bytes : List ℕ) (d : View) (os : List Operation) (out work : List ℕ) → leaves room bytes d os out work .answer .number ≡ 0 → Fitting room os out work
@@ -178,7 +197,7 @@ leaves-room room bytes d os out work h = by (run-judged (λ u. room) (λ u. byte
   where
     by : {Stays : Type 0} {a : Answer} → Judged {U = Unit {0}} (got tt 0) (λ u. Fitting room os out work) (λ u. length bytes) Stays a → a .number ≡ 0 → Fitting room os out work
     by (fitted c f is) h = f
-    by (short c f r is k) h = absurd (omega (arith, h, ap (λ a. a .number) is, in-table (r .reason) .1))
+    by (short c f is k) h = absurd (omega (arith, h, ap (λ a. a .number) is))
     by (turned p is k) h = refused-out (sym p)
 
 -- such a call has written all its bytes

@@ -10,3 +10,4 @@ pub mod RoundTrips
 pub mod Running
 pub mod Demand2
 pub mod Demand3
+pub mod Listings

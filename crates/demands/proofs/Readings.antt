@@ -1,7 +1,8 @@
 -- A file is what its reader accepts: the encoding of something legal is read as that, and what is read was such an encoding.
-use Prim.Native.Nat.{ℕ, _-_}
-use mathlib.Core.Path.{_≡_}
+use Prim.Native.Nat.{ℕ, _-_, _≤_}
+use mathlib.Core.Path.{_≡_, sym}
 use mathlib.Core.List.{List}
+use mathlib.Core.Logic.{_⊎_, inl, inr, ⊎-elim}
 use native.Mathlib.Omega.{arith}
 use lib.ListN.{length}
 use Rattle.meaning.specs.declared.Graph.{Graph}
@@ -10,20 +11,28 @@ use Rattle.meaning.specs.declared.Operation.{Operation}
 use Rattle.meaning.specs.Limits.{elementLimit, queryLimit}
 use Rattle.meaning.specs.Graphs.{LegalGraph}
 use Rattle.meaning.specs.Queries.{XPath, queryNodes}
-use Rattle.fields.specs.Read.{Read, got}
+use Rattle.meaning.specs.declared.Refusal.{Refusal}
+use Rattle.meaning.specs.Refused.{numberOf}
+use Rattle.fields.specs.Read.{Read, got, refused, bind}
+use Rattle.fields.proofs.Formats.{refused-out}
 use Rattle.fields.specs.Write.{Bytes}
 use Rattle.files.specs.Files.{under, followedBy}
 use Rattle.files.proofs.Handed.{under-got, under-out, then-got, then-out}
 use Rattle.graph.specs.Gra.{graphFile}
 use Rattle.graph.proofs.File.{graph-read, graph-written}
+use Rattle.graph.proofs.Reasons.{graph-reason}
 use Rattle.tre.specs.Tre.{documentFile}
 use Rattle.tre.proofs.File.{document-read, document-written}
+use Rattle.tre.proofs.Reasons.{document-reason}
 use Rattle.edg.specs.Edg.{tablesFile}
 use Rattle.edg.proofs.File.{tables-read, tables-written}
+use Rattle.edg.proofs.Reasons.{tables-reason}
 use Rattle.query.specs.Qry.{queryFile}
 use Rattle.query.proofs.File.{query-read, query-written}
+use Rattle.query.proofs.Reasons.{query-reason}
 use Rattle.rel.specs.Rel.{programFile}
 use Rattle.rel.proofs.File.{program-read, program-written}
+use Rattle.rel.proofs.Reasons.{program-reason}
 use Rattle.demands.specs.Demands.{GraphFile, DocumentFile, TablesFile, QueryFile, ProgramFile}
 
 pub graph-got : {gra : List ℕ} {g : Graph} → GraphFile g gra → graphFile gra 0 ≡ got g (length gra)
@@ -64,10 +73,28 @@ module _ {g : Graph} where
 abbrev pub Came : {X : Type 0} → Read X → X → Type 0
 Came e x = (n : ℕ) × (e ≡ got x n)
 
+-- a refusal is that of one of the readings
+pub bind-refused : {A B : Type 0} (e : Read A) (f : A → ℕ → Read B) {r : Refusal} → bind e f ≡ refused r → (e ≡ refused r) ⊎ ((a : A) × (n : ℕ) × (f a n ≡ refused r))
+bind-refused (got a n) f h = inr (a, n, h)
+bind-refused (refused q) f h = inl cc
+
+pub given-refused : {A B : Type 0} (e : Read A) (f : A → ℕ → B) {r : Refusal} → bind e (λ a n. got (f a n) n) ≡ refused r → e ≡ refused r
+given-refused (got a n) f h = refused-out (sym h)
+given-refused (refused q) f h = cc
+
+followed-refused : {A B : Type 0} (x : Read A) (y : Read B) {r : Refusal} → followedBy x y ≡ refused r → (x ≡ refused r) ⊎ (y ≡ refused r)
+unfolding followedBy
+followed-refused x y h = ⊎-elim (λ p. inl p) (λ (a, n, q). inr (given-refused y (λ b n. (a, b)) q)) (bind-refused x _ h)
+
+under-refused : {A : Type 0} (gra : List ℕ) (read : Graph → Read A) {r : Refusal} → under gra read ≡ refused r → (graphFile gra 0 ≡ refused r) ⊎ ((g : Graph) × (read g ≡ refused r))
+unfolding under
+under-refused gra read h = ⊎-elim (λ p. inl p) (λ (g, n, q). inr (g, given-refused (read g) (λ a n. (g, a)) q)) (bind-refused (graphFile gra 0) _ h)
+
 -- under the graph of these bytes a file is read as what it encodes, and what is read is what it encodes
 pub record ReadsAs {X : Type 0} (gra : List ℕ) (File : Graph → X → Type 0) (read : Graph → Read X) : Type 0 where
   pub gives : {g : Graph} {x : X} → GraphFile g gra → File g x → Came (read g) x
   pub back : {g : Graph} {x : X} {n : ℕ} → read g ≡ got x n → File g x
+  pub reason : {g : Graph} {r : Refusal} → read g ≡ refused r → numberOf (r .reason) ≤ 10
 
 -- a query beside the nodes that are left to it
 abbrev pub QueryLeft : List ℕ → Graph → XPath × ℕ → Type 0
@@ -75,16 +102,16 @@ QueryLeft qry g (p, left) = QueryFile g p qry × (left ≡ queryLimit - queryNod
 
 module _ {gra : List ℕ} where
   pub document-reads : {tre : List ℕ} → Bytes tre → ReadsAs gra (λ g es. DocumentFile g es tre) (λ g. documentFile elementLimit g tre 0)
-  document-reads {tre} bytes = record { gives = λ f d. (length tre, document-got (f .legal) d); back = λ h. document-file bytes h }
+  document-reads {tre} bytes = record { gives = λ f d. (length tre, document-got (f .legal) d); back = λ h. document-file bytes h; reason = λ {g} h. document-reason elementLimit g tre h }
 
   pub tables-reads : {edg : List ℕ} → Bytes edg → ReadsAs gra (λ g es. TablesFile g es edg) (λ g. tablesFile elementLimit g edg 0)
-  tables-reads {edg} bytes = record { gives = λ f d. (length edg, tables-got (f .legal) d); back = λ h. tables-file bytes h }
+  tables-reads {edg} bytes = record { gives = λ f d. (length edg, tables-got (f .legal) d); back = λ h. tables-file bytes h; reason = λ {g} h. tables-reason elementLimit g edg h }
 
   pub query-reads : {qry : List ℕ} → Bytes qry → ReadsAs gra (QueryLeft qry) (λ g. queryFile (g .k) qry 0)
-  query-reads {qry} bytes = record { gives = λ f (d, e). (length qry, rw e (query-got d)); back = λ h. query-file bytes h }
+  query-reads {qry} bytes = record { gives = λ f (d, e). (length qry, rw e (query-got d)); back = λ h. query-file bytes h; reason = λ {g} h. query-reason (g .k) qry h }
 
   pub program-reads : {rel : List ℕ} → Bytes rel → ReadsAs gra (λ g os. ProgramFile g os rel) (λ g. programFile (g .k) rel 0)
-  program-reads {rel} bytes = record { gives = λ f d. (length rel, program-got d); back = λ h. program-file bytes h }
+  program-reads {rel} bytes = record { gives = λ f d. (length rel, program-got d); back = λ h. program-file bytes h; reason = λ {g} h. program-reason (g .k) rel h }
 
   -- one file and then another
   pub then-reads : {X Y : Type 0} {F : Graph → X → Type 0} {G : Graph → Y → Type 0} {r : Graph → Read X} {s : Graph → Read Y} → ReadsAs gra F r → ReadsAs gra G s
@@ -92,6 +119,7 @@ module _ {gra : List ℕ} where
   then-reads {r = r} {s = s} a b = record {
     gives = λ {g} f (x, y). let (m, p) = a .gives f x in let (n, q) = b .gives f y in (n, then-got (r g) (s g) p q);
     back = λ {g} h. let (m, p, q) = then-out (r g) (s g) h in (a .back p, b .back q);
+    reason = λ {g} h. ⊎-elim (λ p. a .reason p) (λ q. b .reason q) (followed-refused (r g) (s g) h);
   }
 
   module _ {X : Type 0} {File : Graph → X → Type 0} {read : Graph → Read X} (reads : ReadsAs gra File read) where
@@ -100,3 +128,7 @@ module _ {gra : List ℕ} where
 
     pub under-back : {u : Graph × X} {n : ℕ} → Bytes gra → under gra read ≡ got u n → GraphFile (u .0) gra × File (u .0) (u .1)
     under-back bytes h = let (m, p, q) = under-out gra read h in (graph-file bytes p, reads .back q)
+
+    pub under-reason : {r : Refusal} → under gra read ≡ refused r → numberOf (r .reason) ≤ 10
+    unfolding under
+    under-reason h = ⊎-elim (λ p. graph-reason gra p) (λ (g, p). reads .reason p) (under-refused gra read h)

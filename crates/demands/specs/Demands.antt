@@ -94,12 +94,12 @@ pub record TextRoom (es : List Element) (steps : ℕ) (text work : List ℕ) : T
   pub for-text : 13 * (length es + 2) ≤ length text
   pub for-steps : roomBytes (small .row) * steps ≤ length work
 
--- 1. Every call comes back: with 0 and a count exactly where its files encode something legal and it has its room, which is
--- what it takes; otherwise with one number of the table and nothing else, and what it was lent is as it came.
-pub record Answers {X : Type 0} (Takes : X → Type 0) (count : X → ℕ) (a : Answer) : Type 0 where
+-- 1. Every call comes back: with 0 and a count exactly where it takes what it is given, files that encode something legal and
+-- room; otherwise with one number of the table and nothing else.
+pub record Answers {X : Type 0} (most : ℕ) (Takes : X → Type 0) (count : X → ℕ) (a : Answer) : Type 0 where
   pub accepts : (x : X) → Takes x → a ≡ record { number = 0; count = count x }
   pub only : a .number ≡ 0 → (x : X) × Takes x
-  pub number : a .number ≤ 12
+  pub number : a .number ≤ most
   pub alone : 0 < a .number → a .count ≡ 0
 
 -- past what a call wrote, a buffer is as it came
@@ -107,13 +107,18 @@ pub record Rest (old : List ℕ) (a : Answer) (new : List ℕ) : Type 0 where
   pub as-long : length new ≡ length old
   pub stays : (i : ℕ) → a .count ≤ i → getD new i 0 ≡ getD old i 0
 
-pub record Writes {X : Type 0} (Takes : X → Type 0) (count : X → ℕ) (out : List ℕ) (l : Lent) : Type 0 where
-  pub answers : Answers Takes count (l .answer)
+-- A call that writes a file of what it read asks for the file's length and answers it. 12 is for want of room alone; refused, it
+-- leaves what it was lent as it came.
+pub record Writes {X : Type 0} (Files : X → Type 0) (file : X → List ℕ) (out : List ℕ) (l : Lent) : Type 0 where
+  pub answers : Answers 12 (λ x. Files x × (length (file x) ≤ length out)) (λ x. length (file x)) (l .answer)
+  pub short : l .answer .number ≡ 12 → (x : X) × Files x × (length out < length (file x))
   pub kept : 0 < l .answer .number → l .bytes ≡ out
   pub rest : Rest out (l .answer) (l .bytes)
 
-pub record Runs {X : Type 0} (Takes : X → Type 0) (count : X → ℕ) (out work : List ℕ) (r : Ran) : Type 0 where
-  pub answers : Answers Takes count (r .answer)
+-- the same of a call that is lent two buffers
+pub record Runs {X : Type 0} (Files Fits : X → Type 0) (count : X → ℕ) (out work : List ℕ) (r : Ran) : Type 0 where
+  pub answers : Answers 12 (λ x. Files x × Fits x) count (r .answer)
+  pub short : r .answer .number ≡ 12 → (x : X) × Files x × (Fits x → ⊥)
   pub kept : 0 < r .answer .number → (r .out ≡ out) × (r .work ≡ work)
   pub rest : Rest out (r .answer) (r .out)
 
@@ -124,39 +129,33 @@ announcedBy c s = relOf (getD (c .steps) s (record { pairs = [] }))
 pub record Checks {X : Type 0} (Takes : X → Type 0) (c : Checked) : Type 0 where
   pub accepts : (x : X) → Takes x → c .number ≡ 0
   pub only : c .number ≡ 0 → (x : X) × Takes x
-  pub number : c .number ≤ 12
+  pub number : c .number ≤ 10
   pub alone : 0 < c .number → (s A B : ℕ) → announcedBy c s A B ≡ false
 
 pub record Demand1 (gra : List ℕ) (bytes : Bytes gra) : Type 0 where
   -- a reader counts types, elements, elements, query nodes, steps
-  pub read-graph : {a : Answer} → tb-read-graph gra a → Answers (λ g. GraphFile g gra) (λ g. g .k) a
-  pub read-document : {tre : List ℕ} {a : Answer} → Bytes tre → tb-read-document gra tre a
-      → Answers (Under gra λ g es. DocumentFile g es tre) (λ x. length (x .1)) a
-  pub read-tables : {edg : List ℕ} {a : Answer} → Bytes edg → tb-read-tables gra edg a
-      → Answers (Under gra λ g es. TablesFile g es edg) (λ x. length (x .1)) a
-  pub read-query : {qry : List ℕ} {a : Answer} → Bytes qry → tb-read-query gra qry a
-      → Answers (Under gra λ g p. QueryFile g p qry) (λ x. queryNodes (x .1)) a
-  pub read-program : {rel : List ℕ} {a : Answer} → Bytes rel → tb-read-program gra rel a
-      → Answers (Under gra λ g os. ProgramFile g os rel) (λ x. length (x .1)) a
-  -- a call that writes a file asks for its length and answers it
+  pub read-graph : {a : Answer} → tb-read-graph gra a → Answers 10 (λ g. GraphFile g gra) (λ g. g .k) a
+  pub read-document : {tre : List ℕ} {a : Answer} → Bytes tre → tb-read-document gra tre a → Answers 10 (Under gra λ g es. DocumentFile g es tre) (λ x. length (x .1)) a
+  pub read-tables : {edg : List ℕ} {a : Answer} → Bytes edg → tb-read-tables gra edg a → Answers 10 (Under gra λ g es. TablesFile g es edg) (λ x. length (x .1)) a
+  pub read-query : {qry : List ℕ} {a : Answer} → Bytes qry → tb-read-query gra qry a → Answers 10 (Under gra λ g p. QueryFile g p qry) (λ x. queryNodes (x .1)) a
+  pub read-program : {rel : List ℕ} {a : Answer} → Bytes rel → tb-read-program gra rel a → Answers 10 (Under gra λ g os. ProgramFile g os rel) (λ x. length (x .1)) a
   pub shred : {tre out : List ℕ} {l : Lent} → Bytes tre → tb-shred gra tre out l
-      → Writes (Under gra λ g es. DocumentFile g es tre × (length (tablesBytes g es) ≤ length out)) (λ x. length (tablesBytes (x .0) (x .1))) out l
+      → Writes (Under gra λ g es. DocumentFile g es tre) (λ x. tablesBytes (x .0) (x .1)) out l
   pub rebuild : {edg out : List ℕ} {l : Lent} → Bytes edg → tb-rebuild gra edg out l
-      → Writes (Under gra λ g es. TablesFile g es edg × (length (documentBytes es) ≤ length out)) (λ x. length (documentBytes (x .1))) out l
+      → Writes (Under gra λ g es. TablesFile g es edg) (λ x. documentBytes (x .1)) out l
   pub translate : {qry out : List ℕ} {l : Lent} → Bytes qry → tb-translate gra qry out l
-      → Writes (Under gra λ g p. QueryFile g p qry × (stepCount p ≤ stepLimit) × (length (programBytes (translated g p)) ≤ length out))
-      (λ x. length (programBytes (translated (x .0) (x .1)))) out l
+      → Writes (Under gra λ g p. QueryFile g p qry × (stepCount p ≤ stepLimit)) (λ x. programBytes (translated (x .0) (x .1))) out l
   pub check : {rel : List ℕ} {c : Checked} → Bytes rel → tb-check gra rel c → Checks (Under gra λ g os. ProgramFile g os rel) c
   -- a run counts the nodes that it names, a listing its bytes
   pub run : {edg rel out work : List ℕ} {r : Ran} → Bytes edg → Bytes rel → tb-run gra edg rel out work r
-      → Runs (Under gra λ g (x : List Element × List Operation). TablesFile g (x .0) edg × ProgramFile g (x .1) rel × Room (x .0) (length (x .1)) out work)
-      (λ x. length (answer (view (x .1 .0)) (x .1 .1))) out work r
+      → Runs (Under gra λ g (x : List Element × List Operation). TablesFile g (x .0) edg × ProgramFile g (x .1) rel)
+      (λ x. Room (x .1 .0) (length (x .1 .1)) out work) (λ x. length (answer (view (x .1 .0)) (x .1 .1))) out work r
   pub select : {edg qry out work : List ℕ} {r : Ran} → Bytes edg → Bytes qry → tb-select gra edg qry out work r
-      → Runs (Under gra λ g (x : List Element × XPath). TablesFile g (x .0) edg × QueryFile g (x .1) qry × (stepCount (x .1) ≤ stepLimit) × Room (x .0) (stepCount (x .1)) out work)
-      (λ x. length (selected (view (x .1 .0)) (x .1 .1))) out work r
+      → Runs (Under gra λ g (x : List Element × XPath). TablesFile g (x .0) edg × QueryFile g (x .1) qry × (stepCount (x .1) ≤ stepLimit))
+      (λ x. Room (x .1 .0) (stepCount (x .1 .1)) out work) (λ x. length (selected (view (x .1 .0)) (x .1 .1))) out work r
   pub list : {edg qry text work : List ℕ} {r : Ran} → Bytes edg → Bytes qry → tb-list gra edg qry text work r
-      → Runs (Under gra λ g (x : List Element × XPath). TablesFile g (x .0) edg × QueryFile g (x .1) qry × (stepCount (x .1) ≤ stepLimit) × TextRoom (x .0) (stepCount (x .1)) text work)
-      (λ x. length (listing (view (x .1 .0)) (selected (view (x .1 .0)) (x .1 .1)))) text work r
+      → Runs (Under gra λ g (x : List Element × XPath). TablesFile g (x .0) edg × QueryFile g (x .1) qry × (stepCount (x .1) ≤ stepLimit))
+      (λ x. TextRoom (x .1 .0) (stepCount (x .1 .1)) text work) (λ x. length (listing (view (x .1 .0)) (selected (view (x .1 .0)) (x .1 .1)))) text work r
 
 -- what a call wrote: as many bytes as it answers
 abbrev pub written : Answer → List ℕ → List ℕ

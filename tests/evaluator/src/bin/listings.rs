@@ -96,6 +96,7 @@ fn cases() -> Vec<Case> {
     cases.extend(cut());
     cases.extend(longer());
     cases.extend(edges());
+    cases.extend(longest());
     cases
 }
 
@@ -194,4 +195,22 @@ fn edges() -> Vec<Case> {
         )
     })
     .collect()
+}
+
+/// The longest listing there is: 127 elements with types of two digits and text
+/// numbers of five, all of them selected, and the document node.
+fn longest() -> Vec<Case> {
+    let gra = [&b"GRA\0\x01\x10\x0F"[..], &[0xFF; 32]].concat();
+    let rows: Vec<u8> = (2..=127).flat_map(|to| [to - 1, to, 0xFF, 0xFF]).collect();
+    let edg = [
+        &b"EDG\0\x01\x10"[..],
+        &[0; 10],
+        &[126],
+        &rows,
+        &[0; 4],
+        &[1, 0, 1, 0xFF, 0xFF],
+    ]
+    .concat();
+    let qry = b"QRY\0\x01\x05\x01\x01".to_vec();
+    vec![case("the longest".to_string(), [gra, edg, qry])]
 }
