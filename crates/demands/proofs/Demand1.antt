@@ -53,7 +53,7 @@ use Rattle.trammelbud.specs.Calls.{answerOf, readGraph, readDocument, readTable
 use Rattle.trammelbud.proofs.Lists.{kinds-small}
 use Rattle.trammelbud.proofs.Outcomes.{tb-read-graph, tb-read-document, tb-read-tables, tb-read-query, tb-read-program, tb-shred, tb-rebuild, tb-translate, tb-check, tb-run, tb-select, tb-list}
 use Rattle.trammelbud.proofs.Carried.{read-graph-is, read-document-is, read-tables-is, read-query-is, read-program-is, shred-is, rebuild-is, translate-is, check-is, run-is, select-is, list-is}
-use Rattle.demands.specs.Demands.{GraphFile, DocumentFile, TablesFile, QueryFile, ProgramFile, Under, Room, TextRoom, Answers, Writes, Runs, Checks, Demand1}
+use Rattle.demands.specs.Demands.{GraphFile, DocumentFile, TablesFile, QueryFile, ProgramFile, Under, RunRoom, TextRoom, Answers, Writes, Runs, Checks, Demand1}
 use Rattle.demands.proofs.Readings.{Came, ReadsAs, graph-got, graph-file, bind-refused, given-refused, QueryLeft, document-reads, tables-reads, query-reads, program-reads, then-reads, under-came, under-back, under-reason}
 use Rattle.demands.proofs.Judged.{kept, Taken, reader-answers, answers, for-room, Fitting, read-judged, lent-judged, lent-rest, check-judged, left, run-judged, run-rest}
 use Rattle.demands.proofs.Asking.{asks, few-asked}
@@ -220,7 +220,7 @@ module _ (gra : List ℕ) (bytes : Bytes gra) where
 
   run-runs : {edg rel out work : List ℕ} {r : Ran} → Bytes edg → Bytes rel → tb-run gra edg rel out work r
       → Runs (Under gra λ g (x : List Element × List Operation). TablesFile g (x .0) edg × ProgramFile g (x .1) rel)
-      (λ x. Room (x .1 .0) (length (x .1 .1)) out work) (λ x. length (answer (view (x .1 .0)) (x .1 .1))) out work r
+      (λ x. RunRoom (x .1 .0) (length (x .1 .1)) out work) (λ x. length (answer (view (x .1 .0)) (x .1 .1))) out work r
   unfolding runOf view
   run-runs {edg} {rel} {out} {work} {r} tables program c =
       let reading = then-reads (tables-reads tables) (program-reads program) in
@@ -228,7 +228,7 @@ module _ (gra : List ℕ) (bytes : Bytes gra) where
       let judged = run-judged (λ u. u .0 .size) (λ u. answer (u .0) (u .1)) (λ u. u .0) (λ u. u .1) out work e in
       let taken : Taken 11 e (λ u. Fitting (u .0 .size) (u .1) out work) (λ u. length (answer (u .0) (u .1)))
       (Under gra λ g (x : List Element × List Operation). TablesFile g (x .0) edg × ProgramFile g (x .1) rel)
-      (λ x. Room (x .1 .0) (length (x .1 .1)) out work) (λ x. length (answer (view (x .1 .0)) (x .1 .1))) = record {
+      (λ x. RunRoom (x .1 .0) (length (x .1 .1)) out work) (λ x. length (answer (view (x .1 .0)) (x .1 .1))) = record {
         there = λ x (f, (t, p)).
             let (n, h) = under-came reading f (t, p) in
             (toRun (x .0, (x .1 .0, x .1 .1)), (n, mapped-got toRun h), λ room. (omega (arith, room .for-nodes), room .for-steps), refl);
@@ -312,11 +312,11 @@ module _ (gra : List ℕ) (bytes : Bytes gra) where
         }
 
     select-runs : {out work : List ℕ} {r : Ran} → tb-select gra edg qry out work r
-        → Runs Files (λ x. Room (x .1 .0) (stepCount (x .1 .1)) out work) (λ x. length (selected (view (x .1 .0)) (x .1 .1))) out work r
+        → Runs Files (λ x. RunRoom (x .1 .0) (stepCount (x .1 .1)) out work) (λ x. length (selected (view (x .1 .0)) (x .1 .1))) out work r
     unfolding selectOf
     select-runs {out} {work} {r} c =
         rw (select-is gra edg qry out work .only r c, chosen-left (asked gra edg qry) out work)
-        (asks-runs (λ n. n) selected (λ es steps. Room es steps out work) (λ es steps room. (omega (arith, room .for-nodes), room .for-steps))
+        (asks-runs (λ n. n) selected (λ es steps. RunRoom es steps out work) (λ es steps room. (omega (arith, room .for-nodes), room .for-steps))
         (λ es steps a b. record { for-nodes = omega (arith, a); for-steps = b }) (λ g es p legal accepted. selected-most es p))
 
     list-runs : {text work : List ℕ} {r : Ran} → tb-list gra edg qry text work r

@@ -22,7 +22,7 @@ use Rattle.translator.proofs.Checked.{file-length}
 use Rattle.trammelbud.specs.Calls.{asked, chosen, selectOf, told, listOf}
 use Rattle.trammelbud.proofs.Outcomes.{tb-shred, tb-rebuild, tb-translate, tb-run, tb-select, tb-list}
 use Rattle.trammelbud.proofs.Carried.{shred-is, rebuild-is, translate-is, select-is, list-is}
-use Rattle.demands.specs.Demands.{GraphFile, DocumentFile, TablesFile, QueryFile, ProgramFile, Room, written, Names, Demand2}
+use Rattle.demands.specs.Demands.{GraphFile, DocumentFile, TablesFile, QueryFile, ProgramFile, RunRoom, written, Names, Demand2}
 use Rattle.demands.proofs.Judged.{leaves-there}
 use Rattle.demands.proofs.Named.{names}
 use Rattle.demands.proofs.Asking.{asks, was-asked}
@@ -49,7 +49,7 @@ module _ (gra : List ℕ) (g : Graph) (graph : GraphFile g gra) where
 
   runs : {tre qry a b out work : List ℕ} {es : List Element} {p : XPath} {s t : Lent} {r : Ran} → DocumentFile g es tre → QueryFile g p qry
       → tb-shred gra tre a s → s .answer .number ≡ 0 → tb-translate gra qry b t → t .answer .number ≡ 0
-      → tb-run gra (fileIn s) (fileIn t) out work r → Room es (stepCount p) out work
+      → tb-run gra (fileIn s) (fileIn t) out work r → RunRoom es (stepCount p) out work
       → Names (view es) p (r .answer) (written (r .answer) (r .out))
   runs {es = es} {p} document query shred shreds translate translates run room =
       let kept = promised graph (tables-written document shred shreds) (translation-written query translate translates) run (roomy room (step-count-written g p)) in

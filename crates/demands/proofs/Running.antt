@@ -17,7 +17,7 @@ use Rattle.runner.proofs.Files.{runs-as}
 use Rattle.runner.proofs.Theorems.{run-keeps-its-promises}
 use Rattle.trammelbud.proofs.Outcomes.{tb-run}
 use Rattle.trammelbud.proofs.Carried.{run-is}
-use Rattle.demands.specs.Demands.{GraphFile, TablesFile, ProgramFile, Room}
+use Rattle.demands.specs.Demands.{GraphFile, TablesFile, ProgramFile, RunRoom}
 use Rattle.demands.proofs.Readings.{graph-got, tables-got, program-got}
 use Rattle.demands.proofs.Judged.{leaves-room, leaves-past}
 
@@ -43,6 +43,6 @@ module _ {gra : List ℕ} {g : Graph} (graph : GraphFile g gra) {edg rel : List 
   promised room = rw is-run (run-keeps-its-promises gra edg rel (graph-got graph) (tables-got (graph .legal) tables) (program-got program) room)
 
 -- the room that is asked for, for so many steps
-pub roomy : {es : List Element} {os : List Operation} {steps : ℕ} {out work : List ℕ} → Room es steps out work → length os ≡ steps → Roomy (view es) os out work
+pub roomy : {es : List Element} {os : List Operation} {steps : ℕ} {out work : List ℕ} → RunRoom es steps out work → length os ≡ steps → Roomy (view es) os out work
 unfolding view
 roomy room same = record { for-nodes = omega (arith, room .for-nodes); for-steps = rw same (room .for-steps) }

@@ -1,11 +1,17 @@
 -- The three demands, over what the public calls may answer and leave by the contracts that their code carries. A call is
 -- written as what it is handed and how it ends: `tb-run gra edg rel out work r` says that tb_run, handed these files and lent
--- these buffers, may end as r, its answer beside the bytes of both buffers afterwards.
+-- these buffers, may end as r, its answer beside the bytes of both buffers afterwards. That no call asks anything of what it is
+-- handed stands beside that (`AsksNothing`).
 --
 -- Words from below, each a short definition there, are the rules of docs/RULES.md: what is legal (`LegalGraph`, `Accepted`,
 -- `LegalPath`, `LegalProgram`), how it is written as bytes (`graphBytes` and its like), what a query reaches (`reaches`), which
 -- rows a program's steps have (`run`) and which pairs of kinds are announced for them (`announced`), what it is translated to
 -- (`translated`, of `stepCount` steps), what a listing says (`listing`), and where a row stands in the work area (`joined`).
+--
+-- Their numbers: a document has up to 127 elements (`elementLimit`), a query 24 nodes (`queryLimit`), a program 24 steps
+-- (`stepLimit`); node 0 has kind 16 (`document`); in the work area a row has 16 bytes (`small .row`), which is 128 bits (`rowBits`),
+-- and a step 2,048 bytes (`roomBytes`). `Lent` is an answer beside the bytes of one buffer afterwards, `Ran` beside those of two.
+-- `Bytes` says that each number of a list is a byte, as it is of anything that a caller can lend.
 use Prim.Native.Nat.{ℕ, _+_, _*_, _≤_, _<_}
 use mathlib.Core.Path.{_≡_}
 use mathlib.Core.Bool.{true, false}
@@ -85,7 +91,7 @@ abbrev pub Under : {X : Type 0} → List ℕ → (Graph → X → Type 0) → Gr
 Under gra Takes (g, x) = GraphFile g gra × Takes g x
 
 -- n+1 bytes for the nodes that are named, 2,048 bytes of work area for each step
-pub record Room (es : List Element) (steps : ℕ) (out work : List ℕ) : Type 0 where
+pub record RunRoom (es : List Element) (steps : ℕ) (out work : List ℕ) : Type 0 where
   pub for-nodes : length es + 1 ≤ length out
   pub for-steps : roomBytes (small .row) * steps ≤ length work
 
@@ -149,10 +155,10 @@ pub record Demand1 (gra : List ℕ) (bytes : Bytes gra) : Type 0 where
   -- a run counts the nodes that it names, a listing its bytes
   pub run : {edg rel out work : List ℕ} {r : Ran} → Bytes edg → Bytes rel → tb-run gra edg rel out work r
       → Runs (Under gra λ g (x : List Element × List Operation). TablesFile g (x .0) edg × ProgramFile g (x .1) rel)
-      (λ x. Room (x .1 .0) (length (x .1 .1)) out work) (λ x. length (answer (view (x .1 .0)) (x .1 .1))) out work r
+      (λ x. RunRoom (x .1 .0) (length (x .1 .1)) out work) (λ x. length (answer (view (x .1 .0)) (x .1 .1))) out work r
   pub select : {edg qry out work : List ℕ} {r : Ran} → Bytes edg → Bytes qry → tb-select gra edg qry out work r
       → Runs (Under gra λ g (x : List Element × XPath). TablesFile g (x .0) edg × QueryFile g (x .1) qry × (stepCount (x .1) ≤ stepLimit))
-      (λ x. Room (x .1 .0) (stepCount (x .1 .1)) out work) (λ x. length (selected (view (x .1 .0)) (x .1 .1))) out work r
+      (λ x. RunRoom (x .1 .0) (stepCount (x .1 .1)) out work) (λ x. length (selected (view (x .1 .0)) (x .1 .1))) out work r
   pub list : {edg qry text work : List ℕ} {r : Ran} → Bytes edg → Bytes qry → tb-list gra edg qry text work r
       → Runs (Under gra λ g (x : List Element × XPath). TablesFile g (x .0) edg × QueryFile g (x .1) qry × (stepCount (x .1) ≤ stepLimit))
       (λ x. TextRoom (x .1 .0) (stepCount (x .1 .1)) text work) (λ x. length (listing (view (x .1 .0)) (selected (view (x .1 .0)) (x .1 .1)))) text work r
@@ -180,7 +186,7 @@ pub record Demand2 (gra : List ℕ) (g : Graph) (graph : GraphFile g gra) : Type
   -- the translated program, run over the shredded tables, names what the query selects
   pub runs : {tre qry a b out work : List ℕ} {es : List Element} {p : XPath} {s t : Lent} {r : Ran} → DocumentFile g es tre → QueryFile g p qry
       → tb-shred gra tre a s → s .answer .number ≡ 0 → tb-translate gra qry b t → t .answer .number ≡ 0
-      → tb-run gra (written (s .answer) (s .bytes)) (written (t .answer) (t .bytes)) out work r → Room es (stepCount p) out work
+      → tb-run gra (written (s .answer) (s .bytes)) (written (t .answer) (t .bytes)) out work r → RunRoom es (stepCount p) out work
       → Names (view es) p (r .answer) (written (r .answer) (r .out))
   -- the rows of every step, ours or a client's, stand in the work area
   pub rows : {edg rel out work : List ℕ} {es : List Element} {os : List Operation} {r : Ran} → TablesFile g es edg → ProgramFile g os rel
@@ -228,7 +234,7 @@ pub record Demand3 (gra : List ℕ) (g : Graph) (graph : GraphFile g gra) : Type
       → (s A B : ℕ) → announcedBy c s A B ≡ at (announced g os) s A B
   -- with the room, its run answers 0, and with the same nodes and steps whatever the buffers held
   pub ends : {edg rel out work : List ℕ} {es : List Element} {os : List Operation} {r : Ran} → TablesFile g es edg → ProgramFile g os rel
-      → tb-run gra edg rel out work r → Room es (length os) out work → r .answer .number ≡ 0
+      → tb-run gra edg rel out work r → RunRoom es (length os) out work → r .answer .number ≡ 0
   pub same : {edg rel out work out′ work′ : List ℕ} {es : List Element} {os : List Operation} {r q : Ran} → TablesFile g es edg → ProgramFile g os rel
       → tb-run gra edg rel out work r → r .answer .number ≡ 0 → tb-run gra edg rel out′ work′ q → q .answer .number ≡ 0 → Alike (length os) r q
   -- every row of every step joins a pair that was announced for it

@@ -25,7 +25,7 @@ use Rattle.trammelbud.proofs.tb_check.Reads as check
 use Rattle.trammelbud.proofs.tb_run.Reads as run
 use Rattle.trammelbud.proofs.tb_select.Reads as select
 use Rattle.trammelbud.proofs.tb_list.Reads as list
-use Rattle.trammelbud.proofs.Outcomes.{Slice, Slices1, Slices2, Slices3, Slices5, OnGraph, OnFile, Writing, Running, tb-read-graph, tb-read-document, tb-read-tables, tb-read-query, tb-read-program, tb-shred, tb-rebuild, tb-translate, tb-check, tb-run, tb-select, tb-list}
+use Rattle.trammelbud.proofs.Outcomes.{Slice, Slices1, Slices2, Slices3, Slices5, OnGraph, OnFile, Writing, Running, tb-read-graph, tb-read-document, tb-read-tables, tb-read-query, tb-read-program, tb-shred, tb-rebuild, tb-translate, tb-check, tb-run, tb-select, tb-list, AsksNothing}
 
 -- the outcome is this one: it is allowed, and no other is
 pub record Is {A : Type 0} (Allowed : A → Type 0) (e : A) : Type 0 where
@@ -147,3 +147,19 @@ select-is = running select.Post selectOf (λ κs g t f b w x y a p. p) (λ κs g
 
 pub list-is : (gra edg file out work : List ℕ) → Is (tb-list gra edg file out work) (listOf gra edg file out work)
 list-is = running list.Post listOf (λ κs g t f b w x y a p. p) (λ κs g t f b w x y a p. p)
+
+pub asks-nothing : AsksNothing
+asks-nothing = record {
+  read-graph = λ κs handed. tt;
+  read-document = λ κs handed. tt;
+  read-tables = λ κs handed. tt;
+  read-query = λ κs handed. tt;
+  read-program = λ κs handed. tt;
+  shred = λ κs handed. tt;
+  rebuild = λ κs handed. tt;
+  translate = λ κs handed. tt;
+  check = λ κs handed. tt;
+  run = λ κs handed. tt;
+  select = λ κs handed. tt;
+  list = λ κs handed. tt;
+}

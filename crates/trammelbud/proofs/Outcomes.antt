@@ -123,3 +123,18 @@ tb-select = Running select.Post
 
 abbrev pub tb-list : List ℕ → List ℕ → List ℕ → List ℕ → List ℕ → Ran → Type 0
 tb-list = Running list.Post
+
+-- and none of them asks anything of what it is handed
+pub record AsksNothing : Type 0 where
+  pub read-graph : (κs : Lfts 1) (handed : Slices1) → read-graph.Pre κs handed
+  pub read-document : (κs : Lfts 2) (handed : Slices2) → read-document.Pre κs handed
+  pub read-tables : (κs : Lfts 2) (handed : Slices2) → read-tables.Pre κs handed
+  pub read-query : (κs : Lfts 2) (handed : Slices2) → read-query.Pre κs handed
+  pub read-program : (κs : Lfts 2) (handed : Slices2) → read-program.Pre κs handed
+  pub shred : (κs : Lfts 3) (handed : Slices3) → shred.Pre κs handed
+  pub rebuild : (κs : Lfts 3) (handed : Slices3) → rebuild.Pre κs handed
+  pub translate : (κs : Lfts 3) (handed : Slices3) → translate.Pre κs handed
+  pub check : (κs : Lfts 2) (handed : Slices2) → check.Pre κs handed
+  pub run : (κs : Lfts 5) (handed : Slices5) → run.Pre κs handed
+  pub select : (κs : Lfts 5) (handed : Slices5) → select.Pre κs handed
+  pub list : (κs : Lfts 5) (handed : Slices5) → list.Pre κs handed

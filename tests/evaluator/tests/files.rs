@@ -1,6 +1,6 @@
 //! The files in `examples/stations` are what the example is.
 
-use evaluator::example;
+use evaluator::{calls, example};
 use std::path::Path;
 use std::{fs, str};
 
@@ -26,20 +26,10 @@ fn queries() {
 
 #[test]
 fn program() {
-    let steps = [
-        [2, 0, 0],
-        [1, 0, 0x0F],
-        [6, 1, 0],
-        [2, 0, 0],
-        [5, 2, 3],
-        [4, 0, 4],
-        [1, 0, 0x04],
-        [4, 5, 6],
-    ];
-    assert_eq!(
-        file("program.rel"),
-        [&b"REL\x00\x01\x08"[..], &steps.concat()].concat()
-    );
+    let mut out = [0; 78];
+    let answer = calls::translate(&example::gra(), &file("query.qry"), &mut out);
+    assert_eq!(answer.number, 0);
+    assert_eq!(file("program.rel"), out[..answer.count as usize]);
 }
 
 #[test]
