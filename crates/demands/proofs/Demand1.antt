@@ -34,7 +34,7 @@ use Rattle.tre.specs.Tre.{documentBytes}
 use Rattle.edg.specs.Edg.{tablesFile, tablesBytes}
 use Rattle.query.specs.Qry.{queryFile}
 use Rattle.rel.specs.Rel.{programBytes}
-use Rattle.files.specs.Files.{under, documentUnder, tablesUnder, queryUnder, programUnder, tablesThenProgram, tablesThenQuery, followedBy}
+use Rattle.files.specs.Files.{under, queryUnder, programUnder, tablesThenProgram, tablesThenQuery, followedBy}
 use Rattle.files.proofs.Handed.{mapped-got}
 use Rattle.writing.specs.Lent.{Lent, lent}
 use Rattle.convert.specs.Convert.{shredded, rebuilt}

@@ -19,13 +19,13 @@ use Rattle.rebuilder.proofs.Closes.{document-length}
 use Rattle.rooms.specs.Run.{Ran}
 use Rattle.text.specs.Listing.{listing, listingRoom}
 use Rattle.translator.proofs.Checked.{file-length}
-use Rattle.trammelbud.specs.Calls.{asked, chosen, selectOf, told, listOf}
+use Rattle.trammelbud.specs.Calls.{chosen, selectOf, told, listOf}
 use Rattle.trammelbud.proofs.Outcomes.{tb-shred, tb-rebuild, tb-translate, tb-run, tb-select, tb-list}
 use Rattle.trammelbud.proofs.Carried.{shred-is, rebuild-is, translate-is, select-is, list-is}
 use Rattle.demands.specs.Demands.{GraphFile, DocumentFile, TablesFile, QueryFile, ProgramFile, RunRoom, written, Names, Demand2}
 use Rattle.demands.proofs.Judged.{leaves-there}
 use Rattle.demands.proofs.Named.{names}
-use Rattle.demands.proofs.Asking.{asks, was-asked}
+use Rattle.demands.proofs.Asking.{was-asked}
 use Rattle.demands.proofs.Translated.{few-answer, program-written, many-turned, program-there}
 use Rattle.demands.proofs.RoundTrips.{tables-there, document-there, document-back, tables-back}
 use Rattle.demands.proofs.Running.{had-room, past-steps, promised, roomy}

@@ -11,7 +11,7 @@ use Rattle.meaning.specs.declared.Operation.{Operation}
 use Rattle.meaning.specs.Limits.{small, document, elementLimit, rowBits}
 use Rattle.meaning.specs.Relations.{at}
 use Rattle.meaning.specs.Announcements.{announced}
-use Rattle.meaning.specs.Documents.{view, node}
+use Rattle.meaning.specs.Documents.{node}
 use Rattle.meaning.specs.Operations.{last}
 use Rattle.meaning.proofs.Theorems.{announcements-are-sound, nothing-announced-nothing-selected}
 use Rattle.fields.specs.Read.{Read, got, refused, bind, mapped}

@@ -18,7 +18,7 @@ use Rattle.meaning.specs.Refused.{numberOf}
 use Rattle.meaning.specs.Documents.{View}
 use Rattle.meaning.proofs.Tests.{never}
 use Rattle.fields.specs.Read.{Read, got, refused, pick, mapped}
-use Rattle.fields.proofs.Formats.{got-same, refused-out, pick-out}
+use Rattle.fields.proofs.Formats.{got-same, refused-out}
 use Rattle.writing.specs.Lent.{Lent, turnedAway, accepted, over, stored, lent}
 use Rattle.masks.specs.declared.Announced.{Announced}
 use Rattle.masks.proofs.Announcement.{none-shown}

@@ -1,7 +1,7 @@
 -- The loop over tokens and the file: what reading goes on from, and one law for each turn and return.
 use Prim.Native.Nat.{ℕ, _-_, _≤_, _<_}
 use mathlib.Core.List.{List}
-use mathlib.Core.Path.{_≡_, refl, sym, _∙_}
+use mathlib.Core.Path.{_≡_, refl, _∙_}
 use native.Mathlib.Omega.{arith}
 use mir.Syntax.{w8}
 use mir.Val.{Fits}
@@ -17,7 +17,7 @@ use Rattle.meaning.specs.Limits.{elementLimit}
 use Rattle.fields.specs.declared.Cursor.{Cursor}
 use Rattle.fields.specs.declared.Field.{Field}
 use Rattle.fields.specs.declared.Field.the-variants.{Got, Refused}
-use Rattle.fields.specs.Read.{Read, got, refused, bind, pick, give, header, end}
+use Rattle.fields.specs.Read.{Read, got, bind, pick, give, header, end}
 use Rattle.fields.specs.inside.Outcomes.{outcomeOf, readOf, passed, beside}
 use Rattle.fields.proofs.Laws.{taken, handed, taken-passed, handed-passed, beside-got}
 use Rattle.elements.specs.declared.ElementsRead.{ElementsRead}

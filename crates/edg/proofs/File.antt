@@ -29,7 +29,7 @@ use Rattle.edg.specs.Edg.{tablesRead, head, rowsFile, count, times, ones
 use Rattle.edg.proofs.Lists.{either, All, all-none, all-append, all-split, all-map, all-with, count-append, count-some}
 use Rattle.edg.proofs.Numbers.{Once, ones-out, ones-in, times-none, once-count, once-all, elements-long, elements-at, elements-keep}
 use Rattle.edg.proofs.Tabling.{Stands, rows-same, rows-stand, rows-ascend, rows-times}
-use Rattle.edg.proofs.Rows.{Fitting, Table, takes-rows, reads-rows}
+use Rattle.edg.proofs.Rows.{Table, takes-rows, reads-rows}
 
 takes-here : (b : Bool) (r : Reason) → Takes (judgeHere b r) (λ _. []) (λ _. b ≡ true)
 takes-here b r = record { accepts = λ {at = at} bytes le h. takes-judge at b r .accepts bytes le h }

@@ -1,6 +1,6 @@
 -- Numbers: where they are 1 to n, each once, in n rows, there are no others, and each element stands in its place.
 use Prim.Native.Nat.{ℕ, zero, suc, _+_, _-_, _≤_, _<_}
-use mathlib.Core.Path.{_≡_, refl, sym, ap, _∙_}
+use mathlib.Core.Path.{_≡_, refl, sym, _∙_}
 use mathlib.Core.Bool.{Bool, true, false}
 use mathlib.Core.List.{List, [], _∷_}
 use native.Mathlib.Omega.{arith}
@@ -16,7 +16,7 @@ use Rattle.fields.specs.Read.{pick}
 use Rattle.edg.specs.declared.Row.{Row}
 use Rattle.edg.specs.inside.GoodRow.{GoodRow}
 use Rattle.edg.specs.Edg.{count, times, ones, placed, elementsOf}
-use Rattle.edg.proofs.Lists.{either, All, all-none, all-more, all-map, all-with, count-none, count-full, count-all, count-split, set-keeps, take-keeps, same-anywhere}
+use Rattle.edg.proofs.Lists.{All, all-none, all-more, all-map, all-with, count-none, count-full, count-all, count-split, set-keeps, take-keeps, same-anywhere}
 
 pub ones-out : (n : ℕ) (f : ℕ → ℕ) → ones n f ≡ true → (j : ℕ) → j < n → f j ≡ 1
 unfolding ones

@@ -1,20 +1,20 @@
 -- Rows and tables: what the reader accepts of them, and that what is written reads back.
-use Prim.Native.Nat.{ℕ, zero, suc, _+_, _*_, _≤_, _<_}
+use Prim.Native.Nat.{ℕ, zero, suc, _+_, _*_, _<_}
 use mathlib.Core.Path.{_≡_, refl, ap}
 use mathlib.Core.Bool.{true}
 use mathlib.Core.List.{List, [], _∷_, _++_, append-nil}
 use native.Mathlib.Omega.{arith}
 use lib.Dec.{ltb, leb}
-use lib.ListN.{length, length-append}
+use lib.ListN.{length}
 use borrow.Author.Tests.{lt-ltb, le-leb, ltb-true, leb-true}
-use Rattle.meaning.specs.declared.Reason.the-variants.{Bound, Number}
+use Rattle.meaning.specs.declared.Reason.the-variants.{Number}
 use Rattle.meaning.specs.Limits.{words}
 use Rattle.meaning.proofs.Tests.{and-in, and-left, and-right}
-use Rattle.fields.proofs.Formats.{Reads, Accepts, Takes, reads-bind, reads-last, takes-bind, takes-weaken, accepts-bind, accepts-give, reads-give, reads-judged, reads-byte, reads-word, takes-judged, takes-byte, takes-word}
+use Rattle.fields.proofs.Formats.{Reads, Takes, reads-bind, reads-last, takes-bind, takes-weaken, accepts-give, reads-give, reads-judged, reads-byte, reads-word, takes-judged, takes-byte, takes-word}
 use Rattle.edg.specs.declared.Row.{Row}
 use Rattle.edg.specs.inside.GoodRow.{GoodRow}
-use Rattle.edg.specs.Edg.{rowRule, rowFields, rowRead, rowsRead, tablesRead, rowBytes, rowsBytes, tableBytes}
-use Rattle.edg.proofs.Lists.{All, all-none, all-more, all-append, all-map}
+use Rattle.edg.specs.Edg.{rowRule, rowFields, rowRead, rowsRead, rowBytes, rowsBytes}
+use Rattle.edg.proofs.Lists.{All, all-none, all-more}
 use Rattle.edg.proofs.Tabling.{Ascending, ascending-none, ascending-more}
 
 module _ (limit before : ℕ) (r : Row) where

@@ -1,9 +1,9 @@
 -- One law for each return: the graph turns the call away, or the file after it is what decides.
-use Prim.Native.Nat.{ℕ, _-_, _≤_, _<_}
+use Prim.Native.Nat.{ℕ, _-_}
 use mathlib.Core.Path.{_≡_, refl, sym, ap, subst, _∙_}
 use mathlib.Core.List.{List, []}
 use native.Mathlib.Omega.{arith}
-use lib.ListN.{length, getD}
+use lib.ListN.{getD}
 use borrow.Author.Needs.{needs}
 use mir.Syntax.{w8}
 use mir.Val.{Fits}
@@ -22,7 +22,7 @@ use Rattle.fields.specs.Read.{Read, got, refused, bind}
 use Rattle.fields.specs.inside.Outcomes.{outcomeOf, valueOr}
 use Rattle.fields.proofs.Outcomes.{turned, held}
 use Rattle.elements.specs.declared.ElementsRead.{ElementsRead}
-use Rattle.elements.specs.inside.Packing.{keptIn, Keeps}
+use Rattle.elements.specs.inside.Packing.{Keeps}
 use Rattle.elements.proofs.Packing.{held-long}
 use Rattle.graph.specs.declared.GraphRead.{GraphRead}
 use Rattle.graph.specs.Gra.{graphFile}

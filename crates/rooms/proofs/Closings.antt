@@ -10,7 +10,6 @@ use borrow.Author.Tests.{not-true}
 use lib.Dec.{eqb, leb, ltb, leb·suc-suc}
 use lib.ListN.{length}
 use Rattle.meaning.specs.Limits.{small, rowBits, roomBytes}
-use Rattle.meaning.specs.Sets.{any}
 use Rattle.meaning.specs.Relations.{Relation, closure}
 use Rattle.meaning.proofs.Sets.{any-cong}
 use Rattle.rows.specs.declared.Mix.the-variants.{Either, First}

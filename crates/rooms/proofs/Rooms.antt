@@ -1,7 +1,7 @@
 -- Laws of rooms: their bits, what stays of them, and a room that is made row by row or column by column.
 use Prim.Native.Nat.{ℕ, _+_, _*_, _/_, _%_, _≤_, _<_}
 use mathlib.Core.Path.{_≡_, refl, sym, ap, ap₂, _∙_, fun-ext}
-use mathlib.Core.Bool.{Bool, true, false, _&&_, _||_, and-false, or-false, cond}
+use mathlib.Core.Bool.{Bool, false, _&&_, _||_, and-false, or-false, cond}
 use mathlib.Core.List.{List}
 use mathlib.Core.Logic.{inl, inr}
 use native.Mathlib.Omega.{arith}
@@ -20,7 +20,7 @@ use Rattle.rows.proofs.Bytes.{kept-all, kept-wider, kept-inside, stretch-kept, 
 use Rattle.rows.proofs.Cases.{by-order, by-equal}
 use Rattle.rows.proofs.Rows.{row-order, row-bit, row-past, row-read}
 use Rattle.rooms.specs.inside.Rooms.{RowWidth, upTo, columns, changed, added, Places, RoomMade}
-use Rattle.rooms.proofs.Changes.{changed-here, changed-else, upTo-none, columns-none, row-next, column-next}
+use Rattle.rooms.proofs.Changes.{changed-here, changed-else, row-next, column-next}
 
 module _ (width : ℕ) where
   module _ (xs : List ℕ) (base : ℕ) where

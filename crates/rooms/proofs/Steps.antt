@@ -10,8 +10,7 @@ use lib.Dec.{eqb, ltb}
 use lib.ListN.{length, List·getD-eq-default}
 use Rattle.meaning.specs.declared.Operation.{Operation}
 use Rattle.meaning.specs.declared.Operation.the-variants.{Table, Itself, Text, Join, Union, Closure, Has, Diff, Both}
-use Rattle.meaning.specs.Limits.{small, rowBits, roomBytes}
-use Rattle.meaning.specs.Sets.{any}
+use Rattle.meaning.specs.Limits.{roomBytes}
 use Rattle.meaning.specs.inside.Diagonal.{diagonal}
 use Rattle.meaning.specs.Relations.{Relation, nothing, at, join, unite, has, difference, intersection, closure}
 use Rattle.meaning.specs.Operations.{LegalOperation, rows}
@@ -26,7 +25,6 @@ use Rattle.rooms.specs.declared.room.Test.{Test}
 use Rattle.rooms.specs.declared.room.Test.the-variants.{Always, Text as Texts, Related}
 use Rattle.rooms.specs.inside.Rooms.{RowWidth, upTo, columns, passing, Places, Testable, RoomMade, Closable}
 use Rattle.elements.specs.inside.Packing.{shown}
-use Rattle.rooms.specs.inside.FitToRun.{Nodes}
 use Rattle.rooms.specs.inside.Steps.{roomsIn, Makeable}
 use Rattle.rooms.proofs.Changes.{upTo-all, columns-all}
 use Rattle.rooms.proofs.Rooms.{made-as}

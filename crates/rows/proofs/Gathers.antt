@@ -1,7 +1,7 @@
 -- Laws of rows that are mixed word by word, and of those taken in by the bits of a word, the lowest first.
-use Prim.Native.Nat.{ℕ, zero, suc, _+_, _-_, _*_, _/_, _%_, _^_, _≤_, _<_}
+use Prim.Native.Nat.{ℕ, zero, suc, _+_, _-_, _*_, _/_, _%_, _≤_, _<_}
 use mathlib.Core.Path.{_≡_, refl, sym, ap, ap₂, _∙_}
-use mathlib.Core.Bool.{Bool, true, false, not, _&&_, _||_, and-true, and-false, and-assoc, and-comm, or-false, or-assoc, or-comm}
+use mathlib.Core.Bool.{Bool, false, not, _&&_, _||_, and-true, and-false, and-assoc, and-comm, or-false, or-assoc, or-comm}
 use mathlib.Core.List.{List}
 use native.Mathlib.Nat.{add-zero, add-suc, mul-add}
 use native.Mathlib.Omega.{arith}
@@ -11,7 +11,6 @@ use lib.Bits.{bitAnd}
 use lib.Dec.{eqb}
 use lib.ListN.{length, getD}
 use Rattle.meaning.specs.Sets.{any, bit}
-use Rattle.meaning.specs.Relations.{Relation}
 use Rattle.meaning.proofs.Sets.{any-cong, bit-none, bit-mask}
 use Rattle.rows.specs.declared.Mix.{Mix}
 use Rattle.rows.specs.declared.Mix.the-variants.{Either, Both, First}

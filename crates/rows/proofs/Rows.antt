@@ -16,7 +16,7 @@ use lib.Dec.{eqb}
 use lib.Bits.{bitOr}
 use lib.ListN.{length, getD, set, replicate, length-replicate, getD-replicate, List·getD-eq-default}
 use lib.Seq.{getD-set-same, getD-set-other}
-use Rattle.meaning.specs.Limits.{rowBits, roomBytes}
+use Rattle.meaning.specs.Limits.{rowBits}
 use Rattle.meaning.specs.Sets.{bit}
 use Rattle.meaning.proofs.Sets.{bit-none}
 use Rattle.rows.specs.inside.Rows.{bitIn, inRow, inBytes, Bits, including, stretch, rowsAt, Placed, Lowest, RowMade, Next}

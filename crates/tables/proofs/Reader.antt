@@ -4,7 +4,7 @@ use mathlib.Core.Path.{_≡_, refl, sym, ap, _∙_}
 use mathlib.Core.Bool.{Bool, true, false, not}
 use mathlib.Core.List.{List, [], _∷_, map}
 use native.Mathlib.Omega.{arith}
-use native.Mathlib.Nat.{add-zero, zero-add, add-assoc}
+use native.Mathlib.Nat.{add-zero}
 use lib.Dec.{eqb, leb}
 use lib.ListN.{length, getD, replicate, length-set}
 use lib.Seq.{getD-set-same, getD-set-other}
@@ -19,7 +19,7 @@ use Rattle.meaning.specs.declared.Reason.the-variants.{Bound, Number}
 use Rattle.meaning.specs.declared.Refusal.{Refusal}
 use Rattle.meaning.specs.Limits.{elementLimit}
 use Rattle.meaning.specs.Documents.{documentNode}
-use Rattle.fields.specs.Read.{Read, got, refused, bind, judge, refusalOf, pick, end, mapped}
+use Rattle.fields.specs.Read.{Read, got, bind, judge, refusalOf, pick, end, mapped}
 use Rattle.fields.specs.inside.Outcomes.{outcomeOf, readOf, answered, passed, beside}
 use Rattle.fields.specs.declared.Cursor.{Cursor}
 use Rattle.fields.specs.declared.Field.{Field}

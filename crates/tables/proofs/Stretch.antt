@@ -1,6 +1,6 @@
 -- Reading the rows of one type in their stretch is reading them in the file, also where the file ends inside of it.
 use Prim.Native.Nat.{ℕ, zero, suc, _+_, _*_, _-_, _≤_, _<_, min}
-use mathlib.Core.Path.{_≡_, refl, sym, ap, _∙_}
+use mathlib.Core.Path.{_≡_, refl, sym, _∙_}
 use mathlib.Core.Bool.{Bool, true, false}
 use mathlib.Core.List.{List, [], _∷_}
 use native.Mathlib.Omega.{arith}
@@ -10,9 +10,9 @@ use lib.ListN.{length, getD, take, drop, length-take, length-drop}
 use lib.Seq.{getD-take, getD-drop}
 use borrow.Author.Tests.{lt-ltb, le-ltb, le-leb, lt-leb, ltb-true, ltb-false, leb-true, leb-false}
 use Rattle.meaning.specs.declared.Reason.{Reason}
-use Rattle.meaning.specs.declared.Reason.the-variants.{Ended, Number}
+use Rattle.meaning.specs.declared.Reason.the-variants.{Number}
 use Rattle.meaning.specs.declared.Refusal.{Refusal}
-use Rattle.fields.specs.Read.{Read, Reader, got, refused, bind, pick, give, judge, judged, _>>=_, byte, word}
+use Rattle.fields.specs.Read.{Read, Reader, got, refused, bind, give, judge, judged, _>>=_, byte, word}
 use Rattle.fields.specs.Write.{Bytes}
 use Rattle.fields.proofs.Formats.{got-same, bind-out, pick-out, judge-out}
 use Rattle.edg.specs.declared.Row.{Row}

@@ -1,5 +1,5 @@
 -- What a reader alone answers: one law for each file.
-use Prim.Native.Nat.{ℕ, _-_, _≤_, _<_}
+use Prim.Native.Nat.{ℕ, _-_, _<_}
 use mathlib.Core.Path.{_≡_, refl, sym, ap, _∙_}
 use mathlib.Core.List.{List}
 use native.Mathlib.Omega.{arith}
@@ -14,7 +14,7 @@ use Rattle.meaning.specs.declared.Outcome.the-variants.{Accepted, Refused}
 use Rattle.meaning.specs.declared.Program.{Program}
 use Rattle.meaning.specs.declared.Refusal.{Refusal}
 use Rattle.meaning.specs.Limits.{words, queryLimit}
-use Rattle.fields.specs.Read.{Read, got, refused, mapped}
+use Rattle.fields.specs.Read.{Read, mapped}
 use Rattle.writing.specs.Lent.{accepted, turnedAway}
 use Rattle.graph.specs.declared.GraphRead.{GraphRead}
 use Rattle.graph.specs.Gra.{graphFile}

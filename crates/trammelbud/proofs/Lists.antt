@@ -1,10 +1,10 @@
 -- The listing of a program's nodes: one law for each return, and for what the writer asks.
 use Prim.Native.Nat.{ℕ, zero, suc, _+_, _*_, _≤_, _<_}
 use mathlib.Core.Path.{_≡_, refl, sym, ap, _∙_}
-use mathlib.Core.Bool.{Bool, true, false, _&&_}
+use mathlib.Core.Bool.{Bool, true, false}
 use mathlib.Core.List.{List}
 use native.Mathlib.Omega.{arith}
-use lib.Dec.{leb, ltb}
+use lib.Dec.{leb}
 use lib.ListN.{length, getD, take, replicate, length-replicate, List·getD-eq-default}
 use borrow.Author.Needs.{needs}
 use borrow.Author.Tests.{le-leb, lt-leb, lt-ltb, leb-true, leb-false}
@@ -13,7 +13,7 @@ use Rattle.meaning.proofs.Tests.{and-in}
 use Rattle.meaning.specs.declared.Answer.{Answer}
 use Rattle.meaning.specs.declared.Program.{Program}
 use Rattle.meaning.specs.declared.Reason.the-variants.{Room}
-use Rattle.meaning.specs.Limits.{small, words, elementLimit, roomBytes, types, document}
+use Rattle.meaning.specs.Limits.{small, words, roomBytes, types}
 use Rattle.meaning.specs.Documents.{view, node, isElement, documentNode}
 use Rattle.meaning.specs.Operations.{answer}
 use Rattle.meaning.specs.inside.Records.{operationsIn}
@@ -24,8 +24,7 @@ use Rattle.writing.specs.inside.Put.{Put}
 use Rattle.writing.proofs.Puts.{over-front, over-length}
 use Rattle.rooms.specs.Layout.{workByte, overwritten}
 use Rattle.rooms.specs.inside.FitToRun.{FitToRun}
-use Rattle.rooms.specs.Run.{Ran, Gives, performed, leaves}
-use Rattle.runner.proofs.Promises.{Roomy}
+use Rattle.rooms.specs.Run.{Ran, Gives, performed}
 use Rattle.runner.proofs.Theorems.{performed-given, few-nodes, nodes-below}
 use Rattle.text.specs.inside.Listable.{Listable}
 use Rattle.text.specs.Listing.{listing, listingRoom}

@@ -1,11 +1,11 @@
 -- The program that a query asks for: one law for each return of its planning, and for what is done with it.
-use Prim.Native.Nat.{ℕ, _+_, _*_, _≤_, _<_}
+use Prim.Native.Nat.{ℕ, _≤_, _<_}
 use mathlib.Core.Path.{_≡_, refl, sym, ap, subst, _∙_}
 use mathlib.Core.Bool.{Bool, true, false}
 use mathlib.Core.List.{List}
 use native.Mathlib.Omega.{arith}
 use lib.Dec.{leb}
-use lib.ListN.{length, getD, take, replicate, length-replicate}
+use lib.ListN.{length, getD, take}
 use lib.Seq.{length-take-le}
 use borrow.Author.Needs.{needs}
 use borrow.Author.Tests.{le-leb, lt-leb, leb-true, leb-false}
@@ -22,13 +22,13 @@ use Rattle.meaning.specs.declared.Reason.the-variants.{Steps}
 use Rattle.meaning.specs.declared.Refusal.{Refusal}
 use Rattle.meaning.specs.Limits.{words, elementLimit, stepLimit}
 use Rattle.meaning.specs.Documents.{view, Accepted}
-use Rattle.meaning.specs.Queries.{XPath, selected}
+use Rattle.meaning.specs.Queries.{XPath}
 use Rattle.meaning.specs.Operations.{answer}
 use Rattle.meaning.specs.inside.Records.{programOf, operationsIn}
 use Rattle.meaning.specs.Translation.{translated, stepCount}
 use Rattle.meaning.proofs.Records.{program-holds}
 use Rattle.meaning.proofs.Theorems.{translation-is-right}
-use Rattle.fields.specs.Read.{Read, got, refused, bind, pick, mapped}
+use Rattle.fields.specs.Read.{Read, got, refused, pick}
 use Rattle.elements.specs.inside.Packing.{keptIn, shown}
 use Rattle.query.specs.Qry.{queryFile}
 use Rattle.query.proofs.File.{query-read}
@@ -36,20 +36,20 @@ use Rattle.edg.specs.Edg.{tablesFile}
 use Rattle.rel.specs.Rel.{programFile, programBytes}
 use Rattle.program.specs.declared.ProgramRead.{ProgramRead}
 use Rattle.program.specs.inside.ProgramRead.{ReadsProgram}
-use Rattle.writing.specs.Lent.{Lent, accepted, turnedAway, over, stored, lent, Leaves}
+use Rattle.writing.specs.Lent.{Lent, accepted, turnedAway, over, lent, Leaves}
 use Rattle.writing.proofs.Puts.{over-front, over-length}
 use Rattle.writing.proofs.Stored.{stored-there}
 use Rattle.files.specs.inside.Opens.{Opens, OfElements, OfTablesThenQuery}
-use Rattle.files.specs.Files.{under, followedBy, tablesThenQuery}
+use Rattle.files.specs.Files.{followedBy, tablesThenQuery}
 use Rattle.files.proofs.Handed.{under-out, then-out, mapped-got, mapped-refused}
 use Rattle.rooms.specs.inside.FitToRun.{FitToRun}
-use Rattle.rooms.specs.Run.{Ran, Gives, performed}
+use Rattle.rooms.specs.Run.{Gives, performed}
 use Rattle.runner.proofs.Prepared.{ready}
 use Rattle.translator.specs.inside.Translatable.{AcceptedQuery}
 use Rattle.translator.specs.Translate.{boundedProgram}
 use Rattle.translator.specs.inside.Translated.{translatedQuery, translatedUnder}
-use Rattle.translator.proofs.Checked.{file-length, Checked, translated-checked, translated-stored}
-use Rattle.trammelbud.specs.Calls.{Asked, asking, asked, askedOr, chosen, selectOf, lists, told, listOf}
+use Rattle.translator.proofs.Checked.{file-length, translated-checked, translated-stored}
+use Rattle.trammelbud.specs.Calls.{Asked, asked, askedOr, chosen, selectOf, lists, told, listOf}
 use Rattle.trammelbud.specs.inside.Parts.{Translated, Planned}
 
 -- A query that was accepted, by how many steps it takes.
