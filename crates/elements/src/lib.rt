@@ -2,7 +2,7 @@
 // elements by value would be copied at each call.
 ghost use mathlib.Core.Path.{_≡_};
 ghost use Prim.Native.Nat.{_≤_, _<_};
-ghost use lib.ListN.{length, getD};
+ghost use lib.ListN.{length};
 ghost use Rattle.meaning.specs.Documents.{node};
 ghost use Rattle.fields.specs.inside.Outcomes.{outcomeOf, readOf};
 ghost use Rattle.elements.specs.inside.Packing.{elementIn, keptIn};

@@ -1,5 +1,4 @@
 // A row of a room: of the room that starts at a place, the row of a number.
-ghost use mathlib.Core.Path.{_≡_};
 ghost use Prim.Native.Nat.{_+_, _≤_, _<_};
 ghost use lib.ListN.{length};
 ghost use Rattle.meaning.specs.Limits.{rowBits, roomBytes};
