@@ -3,12 +3,12 @@
 use Prim.Native.Nat.{ℕ, suc, _-_, _*_, _≤_, _<_}
 use mathlib.Core.Path.{_≡_, refl, sym, ap, subst, _∙_}
 use mathlib.Core.Bool.{Bool, true, false, _&&_}
-use mathlib.Core.Logic.{⊎-elim}
+use mathlib.Core.Logic.{_⊎_, inl, inr, ⊎-elim}
 use mathlib.Core.List.{List}
 use native.Mathlib.Omega.{arith}
 use lib.Dec.{leb}
 use lib.ListN.{length}
-use borrow.Author.Tests.{le-leb, leb-true}
+use borrow.Author.Tests.{le-leb, leb-true, leb-false}
 use Rattle.meaning.specs.declared.Answer.{Answer}
 use Rattle.meaning.specs.declared.Element.{Element}
 use Rattle.meaning.specs.declared.Graph.{Graph}
@@ -53,9 +53,9 @@ use Rattle.trammelbud.specs.Calls.{answerOf, readGraph, readDocument, readTable
 use Rattle.trammelbud.proofs.Lists.{kinds-small}
 use Rattle.trammelbud.proofs.Outcomes.{tb-read-graph, tb-read-document, tb-read-tables, tb-read-query, tb-read-program, tb-shred, tb-rebuild, tb-translate, tb-check, tb-run, tb-select, tb-list}
 use Rattle.trammelbud.proofs.Carried.{read-graph-is, read-document-is, read-tables-is, read-query-is, read-program-is, shred-is, rebuild-is, translate-is, check-is, run-is, select-is, list-is}
-use Rattle.demands.specs.Demands.{GraphFile, DocumentFile, TablesFile, QueryFile, ProgramFile, Under, RunRoom, TextRoom, Answers, Writes, Runs, Checks, Demand1}
+use Rattle.demands.specs.Demands.{GraphFile, DocumentFile, TablesFile, QueryFile, ProgramFile, Under, RunRoom, TextRoom, TooLong, TooLongOver, Answers, Writes, Runs, Checks, Demand1}
 use Rattle.demands.proofs.Readings.{Came, ReadsAs, graph-got, graph-file, bind-refused, given-refused, QueryLeft, document-reads, tables-reads, query-reads, program-reads, then-reads, under-came, under-back, under-reason}
-use Rattle.demands.proofs.Judged.{kept, Taken, reader-answers, answers, for-room, Fitting, read-judged, lent-judged, lent-rest, check-judged, left, run-judged, run-rest}
+use Rattle.demands.proofs.Judged.{kept, Taken, reader-answers, answers, for-length, for-room, Fitting, read-judged, lent-judged, lent-rest, check-judged, left, run-judged, run-rest}
 use Rattle.demands.proofs.Asking.{asks, few-asked}
 use Rattle.demands.proofs.Named.{selected-lists}
 
@@ -83,13 +83,24 @@ program-back : (g : Graph) (p : XPath) (m : ℕ) {os : List Operation} {n : ℕ}
 unfolding boundedProgram
 program-back g p m h = let (few, is) = pick-out _ _ _ h in (leb-true (stepCount p) stepLimit few, got-same is .0)
 
-bounded-reason : (g : Graph) (p : XPath) (n : ℕ) {r : Refusal} → boundedProgram g p n ≡ refused r → numberOf (r .reason) ≤ 11
+-- and has none with 11, where they are many
+bounded-long : (g : Graph) (p : XPath) (n : ℕ) {r : Refusal} → boundedProgram g p n ≡ refused r → (numberOf (r .reason) ≡ 11) × (stepLimit < stepCount p)
 unfolding boundedProgram
-bounded-reason g p n {r} h = by-count (leb (stepCount p) stepLimit) h
+bounded-long g p n {r} h = by-count (leb (stepCount p) stepLimit) refl h
   where
-    by-count : (b : Bool) → pick b (got (translated g p) n) (refused (record { reason = Steps })) ≡ refused r → numberOf (r .reason) ≤ 11
-    by-count true h = refused-out (sym h)
-    by-count false h = let same : record { reason = Steps } ≡ r = cc in rw (← same) (omega arith)
+    by-count : (b : Bool) → leb (stepCount p) stepLimit ≡ b → pick b (got (translated g p) n) (refused (record { reason = Steps })) ≡ refused r → (numberOf (r .reason) ≡ 11) × (stepLimit < stepCount p)
+    by-count true e h = refused-out (sym h)
+    by-count false e h = let same : record { reason = Steps } ≡ r = cc in (rw (← same), omega (arith, leb-false (stepCount p) stepLimit e))
+
+-- a reading is turned away with a number up to 10, or with 11 and for its length
+abbrev Reasons : {U : Type 0} → Read U → Type 0 → Type 0
+Reasons e Long = (r : Refusal) → e ≡ refused r → (numberOf (r .reason) ≤ 10) ⊎ ((numberOf (r .reason) ≡ 11) × Long)
+
+reasons-most : {U : Type 0} {e : Read U} {Long : Type 0} → Reasons e Long → (r : Refusal) → e ≡ refused r → numberOf (r .reason) ≤ 11
+reasons-most reasons r h = ⊎-elim (λ l. omega (arith, l)) (λ (is, long). omega (arith, is)) (reasons r h)
+
+reasons-long : {U : Type 0} {e : Read U} {Long : Type 0} → Reasons e Long → (r : Refusal) × (e ≡ refused r) × (numberOf (r .reason) ≡ 11) → Long
+reasons-long reasons (r, h, is) = ⊎-elim (λ l. absurd (omega (arith, l, is))) (λ (_, long). long) (reasons r h)
 
 -- what a run and what the calls on a query leave, by their readings
 ran-left : (e : Read (View × List Operation)) (out work : List ℕ) → ran e out work ≡ left (λ u. u .0 .size) (λ u. answer (u .0) (u .1)) (λ u. u .0) (λ u. u .1) out work e
@@ -125,17 +136,18 @@ alone : {X : Type 0} {most : ℕ} {Files : X → Type 0} {count : X → ℕ} {a 
 alone h = record { accepts = λ x f. h .accepts x (f, tt); only = λ z. let (x, (f, _)) = h .only z in (x, f); number = h .number; alone = h .alone }
 
 -- a call that writes a file, by what its reading gives
-writes-by : {X : Type 0} {Files : X → Type 0} {file : X → List ℕ} (e : Read (List ℕ)) (out : List ℕ) → ((x : X) → Files x → Came e (file x))
-    → ((u : List ℕ) → Came e u → (x : X) × Files x × (file x ≡ u)) → ((r : Refusal) → e ≡ refused r → numberOf (r .reason) ≤ 11) → Writes Files file out (lent e out)
-writes-by {Files = Files} {file} e out there back reason =
+writes-by : {X : Type 0} {Long : Type 0} {Files : X → Type 0} {file : X → List ℕ} (e : Read (List ℕ)) (out : List ℕ) → ((x : X) → Files x → Came e (file x))
+    → ((u : List ℕ) → Came e u → (x : X) × Files x × (file x ≡ u)) → Reasons e Long → Writes Long Files file out (lent e out)
+writes-by {Files = Files} {file} e out there back reasons =
     let judged = lent-judged e out in
     let taken : Taken 11 e (λ u. length u ≤ length out) length Files (λ x. length (file x) ≤ length out) (λ x. length (file x)) = record {
       there = λ x f. (file x, there x f, λ l. l, refl);
       back = λ {u} c. let (x, f, same) = back u c in (x, f, λ l. rw same l, λ l. rw same at l);
-      reason = λ {r} h. reason r h;
+      reason = λ {r} h. reasons-most reasons r h;
     } in
     record {
       answers = answers taken judged;
+      long = λ h. reasons-long reasons (for-length taken judged h);
       short = λ h. let (x, f, none) = for-room taken (omega arith) judged h in (x, f, not-le none);
       kept = kept judged;
       rest = lent-rest e out;
@@ -181,23 +193,23 @@ module _ (gra : List ℕ) (bytes : Bytes gra) where
       (λ u. tt) (read-judged (λ x. queryLimit - x .1 .1) (queryUnder gra qry))))
 
   writes : {X : Type 0} {File : Graph → X → Type 0} {read : Graph → Read X} → ReadsAs gra File read → (write : Graph × X → List ℕ) (out : List ℕ)
-      → Writes (Under gra File) write out (lent (mapped write (under gra read)) out)
+      → Writes ⊥ (Under gra File) write out (lent (mapped write (under gra read)) out)
   writes {read = read} r write out =
       writes-by (mapped write (under gra read)) out
       (λ x (f, d). let (n, h) = under-came r f d in (n, mapped-got write h))
       (λ u (n, h). let (x, p, same) = mapped-out write (under gra read) h in (x, under-back r bytes p, same))
-      (λ q h. omega (arith, under-reason r (mapped-refused-out write (under gra read) h)))
+      (λ q h. inl (under-reason r (mapped-refused-out write (under gra read) h)))
 
-  shred-writes : {tre out : List ℕ} {l : Lent} → Bytes tre → tb-shred gra tre out l → Writes (Under gra λ g es. DocumentFile g es tre) (λ x. tablesBytes (x .0) (x .1)) out l
+  shred-writes : {tre out : List ℕ} {l : Lent} → Bytes tre → tb-shred gra tre out l → Writes ⊥ (Under gra λ g es. DocumentFile g es tre) (λ x. tablesBytes (x .0) (x .1)) out l
   unfolding shredded
   shred-writes {tre} {out} {l} more c = rw (shred-is gra tre out .only l c) (writes (document-reads more) (λ x. tablesBytes (x .0) (x .1)) out)
 
-  rebuild-writes : {edg out : List ℕ} {l : Lent} → Bytes edg → tb-rebuild gra edg out l → Writes (Under gra λ g es. TablesFile g es edg) (λ x. documentBytes (x .1)) out l
+  rebuild-writes : {edg out : List ℕ} {l : Lent} → Bytes edg → tb-rebuild gra edg out l → Writes ⊥ (Under gra λ g es. TablesFile g es edg) (λ x. documentBytes (x .1)) out l
   unfolding rebuilt
   rebuild-writes {edg} {out} {l} more c = rw (rebuild-is gra edg out .only l c) (writes (tables-reads more) (λ x. documentBytes (x .1)) out)
 
   translate-writes : {qry out : List ℕ} {l : Lent} → Bytes qry → tb-translate gra qry out l
-      → Writes (Under gra λ g p. QueryFile g p qry × (stepCount p ≤ stepLimit)) (λ x. programBytes (translated (x .0) (x .1))) out l
+      → Writes (TooLong gra qry) (Under gra λ g p. QueryFile g p qry × (stepCount p ≤ stepLimit)) (λ x. programBytes (translated (x .0) (x .1))) out l
   unfolding translation
   translate-writes {qry} {out} {l} more c =
       rw (translate-is gra qry out .only l c) (writes-by (bind (queryUnder gra qry) λ x at. mapped programBytes (boundedProgram (x .0) (x .1 .0) at)) out
@@ -210,7 +222,13 @@ module _ (gra : List ℕ) (bytes : Bytes gra) where
       let (few, is) = program-back (x .0) (x .1 .0) m made in
       let (f, d) = under-back (query-reads more) bytes p in
       ((x .0, x .1 .0), (f, (d .0, few)), ap programBytes is ∙ same))
-      (λ r h. ⊎-elim (λ p. omega (arith, under-reason (query-reads more) p)) (λ (x, n, q). bounded-reason (x .0) (x .1 .0) n (mapped-refused-out programBytes (boundedProgram (x .0) (x .1 .0) n) q)) (bind-refused (queryUnder gra qry) _ h)))
+      (λ r h.
+      ⊎-elim (λ p. inl (under-reason (query-reads more) p))
+      (λ (x, n, p, q).
+      let (is, many) = bounded-long (x .0) (x .1 .0) n (mapped-refused-out programBytes (boundedProgram (x .0) (x .1 .0) n) q) in
+      let (f, d) = under-back (query-reads more) bytes p in
+      inr (is, ((x .0, x .1 .0), (f, (d .0, many)))))
+      (bind-refused (queryUnder gra qry) _ h)))
 
   check-checks : {rel : List ℕ} {c : Checked} → Bytes rel → tb-check gra rel c → Checks (Under gra λ g os. ProgramFile g os rel) c
   unfolding checkOf
@@ -219,7 +237,7 @@ module _ (gra : List ℕ) (bytes : Bytes gra) where
       (λ x (f, d). under-came (program-reads more) f d) (λ x (n, e). under-back (program-reads more) bytes e) (λ r e. under-reason (program-reads more) e))
 
   run-runs : {edg rel out work : List ℕ} {r : Ran} → Bytes edg → Bytes rel → tb-run gra edg rel out work r
-      → Runs (Under gra λ g (x : List Element × List Operation). TablesFile g (x .0) edg × ProgramFile g (x .1) rel)
+      → Runs ⊥ (Under gra λ g (x : List Element × List Operation). TablesFile g (x .0) edg × ProgramFile g (x .1) rel)
       (λ x. RunRoom (x .1 .0) (length (x .1 .1)) out work) (λ x. length (answer (view (x .1 .0)) (x .1 .1))) out work r
   unfolding runOf view
   run-runs {edg} {rel} {out} {work} {r} tables program c =
@@ -243,6 +261,7 @@ module _ (gra : List ℕ) (bytes : Bytes gra) where
       } in
       rw (run-is gra edg rel out work .only r c, ran-left e out work) record {
         answers = answers taken judged;
+        long = λ h. let (q, p, is) = for-length taken judged h in absurd (omega (arith, is, under-reason reading (mapped-refused-out toRun (tablesThenProgram gra edg rel) p)));
         short = for-room taken (omega arith) judged;
         kept = kept judged;
         rest = run-rest (λ u. u .0 .size) (λ u. answer (u .0) (u .1)) (λ u. u .0) (λ u. u .1) out work e (λ u c. few-nodes (u .0) (u .1));
@@ -266,11 +285,14 @@ module _ (gra : List ℕ) (bytes : Bytes gra) where
         let (f, (t, q)) = under-back reading bytes r in
         (x .0, x .1 .0, x .1 .1 .0, f, t, q .0, few, rw is same)
 
-    asked-reason : {r : Refusal} → asked gra edg qry ≡ refused r → numberOf (r .reason) ≤ 11
+    asked-reasons : Reasons (asked gra edg qry) (TooLongOver gra edg qry)
     unfolding asked
-    asked-reason h =
-        ⊎-elim (λ p. omega (arith, under-reason reading p))
-        (λ (x, n, q). bounded-reason (x .0) (x .1 .1 .0) n (mapped-refused-out _ (boundedProgram (x .0) (x .1 .1 .0) n) q))
+    asked-reasons r h =
+        ⊎-elim (λ p. inl (under-reason reading p))
+        (λ (x, n, p, q).
+        let (is, many) = bounded-long (x .0) (x .1 .1 .0) n (mapped-refused-out _ (boundedProgram (x .0) (x .1 .1 .0) n) q) in
+        let (f, (t, d)) = under-back reading bytes p in
+        inr (is, ((x .0, (x .1 .0, x .1 .1 .0)), (f, (t, d .0, many)))))
         (bind-refused (tablesThenQuery gra edg qry) asking h)
 
     abbrev Files : Graph × (List Element × XPath) → Type 0
@@ -281,7 +303,7 @@ module _ (gra : List ℕ) (bytes : Bytes gra) where
         → ((es : List Element) (steps : ℕ) → Roomed es steps → (room (suc (length es)) ≤ length out) × (roomBytes (small .row) * steps ≤ length work))
         → ((es : List Element) (steps : ℕ) → room (suc (length es)) ≤ length out → roomBytes (small .row) * steps ≤ length work → Roomed es steps)
         → ((g : Graph) (es : List Element) (p : XPath) → LegalGraph g → Accepted elementLimit g es → length (leave (view es) p) ≤ room (suc (length es)))
-        → Runs Files (λ x. Roomed (x .1 .0) (stepCount (x .1 .1))) (λ x. length (leave (view (x .1 .0)) (x .1 .1))) out work
+        → Runs (TooLongOver gra edg qry) Files (λ x. Roomed (x .1 .0) (stepCount (x .1 .1))) (λ x. length (leave (view (x .1 .0)) (x .1 .1))) out work
         (left (λ a. room (a .view .size)) (λ a. leave (a .view) (a .path)) (λ a. a .view) (λ a. a .program) out work (asked gra edg qry))
     unfolding view
     asks-runs room leave Roomed {out} {work} fits roomed most =
@@ -300,10 +322,11 @@ module _ (gra : List ℕ) (bytes : Bytes gra) where
                     roomed es (stepCount p) (rw (ap (λ a. a .view .size) same) (given .0)) for-steps,
                 λ given. subst (λ a. Fitting (room (a .view .size)) (a .program) out work) same (fit g es p given),
               );
-          reason = asked-reason;
+          reason = λ {r} h. reasons-most asked-reasons r h;
         } in
         record {
           answers = answers taken judged;
+          long = λ h. reasons-long asked-reasons (for-length taken judged h);
           short = for-room taken (omega arith) judged;
           kept = kept judged;
           rest = run-rest (λ a. room (a .view .size)) (λ a. leave (a .view) (a .path)) (λ a. a .view) (λ a. a .program) out work (asked gra edg qry) λ a (n, h).
@@ -312,7 +335,7 @@ module _ (gra : List ℕ) (bytes : Bytes gra) where
         }
 
     select-runs : {out work : List ℕ} {r : Ran} → tb-select gra edg qry out work r
-        → Runs Files (λ x. RunRoom (x .1 .0) (stepCount (x .1 .1)) out work) (λ x. length (selected (view (x .1 .0)) (x .1 .1))) out work r
+        → Runs (TooLongOver gra edg qry) Files (λ x. RunRoom (x .1 .0) (stepCount (x .1 .1)) out work) (λ x. length (selected (view (x .1 .0)) (x .1 .1))) out work r
     unfolding selectOf
     select-runs {out} {work} {r} c =
         rw (select-is gra edg qry out work .only r c, chosen-left (asked gra edg qry) out work)
@@ -320,7 +343,7 @@ module _ (gra : List ℕ) (bytes : Bytes gra) where
         (λ es steps a b. record { for-nodes = omega (arith, a); for-steps = b }) (λ g es p legal accepted. selected-most es p))
 
     list-runs : {text work : List ℕ} {r : Ran} → tb-list gra edg qry text work r
-        → Runs Files (λ x. TextRoom (x .1 .0) (stepCount (x .1 .1)) text work) (λ x. length (listing (view (x .1 .0)) (selected (view (x .1 .0)) (x .1 .1)))) text work r
+        → Runs (TooLongOver gra edg qry) Files (λ x. TextRoom (x .1 .0) (stepCount (x .1 .1)) text work) (λ x. length (listing (view (x .1 .0)) (selected (view (x .1 .0)) (x .1 .1)))) text work r
     unfolding listOf
     list-runs {text} {work} {r} c =
         rw (list-is gra edg qry text work .only r c, told-left (asked gra edg qry) text work)

@@ -94,6 +94,12 @@ module _ {U X : Type 0} {most : ℕ} {e : Read U} {Fits : U → Type 0} {counts 
   answers (short {u} c f is k) = rw is (turned-answers 12 (record { reason = Room }) (omega arith) λ x t. let (v, d, g, same) = taken .there x (t .0) in f (rw (one-came d c) at (g (t .1))))
   answers (turned {r} p is k) = rw is (turned-answers 12 r (in-table (r .reason) .0) (unread p))
 
+  -- 11 comes of the reading
+  pub for-length : {Stays : Type 0} {a : Answer} → Judged e Fits counts Stays a → a .number ≡ 11 → (r : Refusal) × (e ≡ refused r) × (numberOf (r .reason) ≡ 11)
+  for-length (fitted c f is) h = absurd (omega (arith, h, ap (λ a. a .number) is))
+  for-length (short c f is k) h = absurd (omega (arith, h, ap (λ a. a .number) is))
+  for-length (turned {r} p is k) h = (r, p, omega (arith, h, ap (λ a. a .number) is))
+
   -- 12 is for want of room
   pub for-room : {Stays : Type 0} {a : Answer} → most < 12 → Judged e Fits counts Stays a → a .number ≡ 12 → (x : X) × Files x × (Roomed x → ⊥)
   for-room l (fitted c f is) h = absurd (omega (arith, h, ap (λ a. a .number) is))

@@ -1,6 +1,6 @@
 -- A file is what its reader accepts: the encoding of something legal is read as that, and what is read was such an encoding.
 use Prim.Native.Nat.{ℕ, _-_, _≤_}
-use mathlib.Core.Path.{_≡_, sym}
+use mathlib.Core.Path.{_≡_, refl, sym}
 use mathlib.Core.List.{List}
 use mathlib.Core.Logic.{_⊎_, inl, inr, ⊎-elim}
 use native.Mathlib.Omega.{arith}
@@ -74,8 +74,8 @@ abbrev pub Came : {X : Type 0} → Read X → X → Type 0
 Came e x = (n : ℕ) × (e ≡ got x n)
 
 -- a refusal is that of one of the readings
-pub bind-refused : {A B : Type 0} (e : Read A) (f : A → ℕ → Read B) {r : Refusal} → bind e f ≡ refused r → (e ≡ refused r) ⊎ ((a : A) × (n : ℕ) × (f a n ≡ refused r))
-bind-refused (got a n) f h = inr (a, n, h)
+pub bind-refused : {A B : Type 0} (e : Read A) (f : A → ℕ → Read B) {r : Refusal} → bind e f ≡ refused r → (e ≡ refused r) ⊎ ((a : A) × (n : ℕ) × (e ≡ got a n) × (f a n ≡ refused r))
+bind-refused (got a n) f h = inr (a, n, refl, h)
 bind-refused (refused q) f h = inl cc
 
 pub given-refused : {A B : Type 0} (e : Read A) (f : A → ℕ → B) {r : Refusal} → bind e (λ a n. got (f a n) n) ≡ refused r → e ≡ refused r
@@ -84,11 +84,11 @@ given-refused (refused q) f h = cc
 
 followed-refused : {A B : Type 0} (x : Read A) (y : Read B) {r : Refusal} → followedBy x y ≡ refused r → (x ≡ refused r) ⊎ (y ≡ refused r)
 unfolding followedBy
-followed-refused x y h = ⊎-elim (λ p. inl p) (λ (a, n, q). inr (given-refused y (λ b n. (a, b)) q)) (bind-refused x _ h)
+followed-refused x y h = ⊎-elim (λ p. inl p) (λ (a, n, p, q). inr (given-refused y (λ b n. (a, b)) q)) (bind-refused x _ h)
 
 under-refused : {A : Type 0} (gra : List ℕ) (read : Graph → Read A) {r : Refusal} → under gra read ≡ refused r → (graphFile gra 0 ≡ refused r) ⊎ ((g : Graph) × (read g ≡ refused r))
 unfolding under
-under-refused gra read h = ⊎-elim (λ p. inl p) (λ (g, n, q). inr (g, given-refused (read g) (λ a n. (g, a)) q)) (bind-refused (graphFile gra 0) _ h)
+under-refused gra read h = ⊎-elim (λ p. inl p) (λ (g, n, p, q). inr (g, given-refused (read g) (λ a n. (g, a)) q)) (bind-refused (graphFile gra 0) _ h)
 
 -- under the graph of these bytes a file is read as what it encodes, and what is read is what it encodes
 pub record ReadsAs {X : Type 0} (gra : List ℕ) (File : Graph → X → Type 0) (read : Graph → Read X) : Type 0 where

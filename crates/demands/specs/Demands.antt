@@ -113,17 +113,19 @@ pub record Rest (old : List ℕ) (a : Answer) (new : List ℕ) : Type 0 where
   pub as-long : length new ≡ length old
   pub stays : (i : ℕ) → a .count ≤ i → getD new i 0 ≡ getD old i 0
 
--- A call that writes a file of what it read asks for the file's length and answers it. 12 is for want of room alone; refused, it
--- leaves what it was lent as it came.
-pub record Writes {X : Type 0} (Files : X → Type 0) (file : X → List ℕ) (out : List ℕ) (l : Lent) : Type 0 where
+-- A call that writes a file of what it read asks for the file's length and answers it. 11 is for files that are accepted but too
+-- long (Long), 12 for want of room alone; refused, it leaves what it was lent as it came.
+pub record Writes {X : Type 0} (Long : Type 0) (Files : X → Type 0) (file : X → List ℕ) (out : List ℕ) (l : Lent) : Type 0 where
   pub answers : Answers 12 (λ x. Files x × (length (file x) ≤ length out)) (λ x. length (file x)) (l .answer)
+  pub long : l .answer .number ≡ 11 → Long
   pub short : l .answer .number ≡ 12 → (x : X) × Files x × (length out < length (file x))
   pub kept : 0 < l .answer .number → l .bytes ≡ out
   pub rest : Rest out (l .answer) (l .bytes)
 
 -- the same of a call that is lent two buffers
-pub record Runs {X : Type 0} (Files Fits : X → Type 0) (count : X → ℕ) (out work : List ℕ) (r : Ran) : Type 0 where
+pub record Runs {X : Type 0} (Long : Type 0) (Files Fits : X → Type 0) (count : X → ℕ) (out work : List ℕ) (r : Ran) : Type 0 where
   pub answers : Answers 12 (λ x. Files x × Fits x) count (r .answer)
+  pub long : r .answer .number ≡ 11 → Long
   pub short : r .answer .number ≡ 12 → (x : X) × Files x × (Fits x → ⊥)
   pub kept : 0 < r .answer .number → (r .out ≡ out) × (r .work ≡ work)
   pub rest : Rest out (r .answer) (r .out)
@@ -138,6 +140,13 @@ pub record Checks {X : Type 0} (Takes : X → Type 0) (c : Checked) : Type 0 whe
   pub number : c .number ≤ 10
   pub alone : 0 < c .number → (s A B : ℕ) → announcedBy c s A B ≡ false
 
+-- a query that is accepted, and takes more than 24 steps; the same behind tables that are
+abbrev pub TooLong : List ℕ → List ℕ → Type 0
+TooLong gra qry = (x : Graph × XPath) × Under gra (λ g p. QueryFile g p qry × (stepLimit < stepCount p)) x
+
+abbrev pub TooLongOver : List ℕ → List ℕ → List ℕ → Type 0
+TooLongOver gra edg qry = (x : Graph × (List Element × XPath)) × Under gra (λ g (y : List Element × XPath). TablesFile g (y .0) edg × QueryFile g (y .1) qry × (stepLimit < stepCount (y .1))) x
+
 pub record Demand1 (gra : List ℕ) (bytes : Bytes gra) : Type 0 where
   -- a reader counts types, elements, elements, query nodes, steps
   pub read-graph : {a : Answer} → tb-read-graph gra a → Answers 10 (λ g. GraphFile g gra) (λ g. g .k) a
@@ -146,21 +155,21 @@ pub record Demand1 (gra : List ℕ) (bytes : Bytes gra) : Type 0 where
   pub read-query : {qry : List ℕ} {a : Answer} → Bytes qry → tb-read-query gra qry a → Answers 10 (Under gra λ g p. QueryFile g p qry) (λ x. queryNodes (x .1)) a
   pub read-program : {rel : List ℕ} {a : Answer} → Bytes rel → tb-read-program gra rel a → Answers 10 (Under gra λ g os. ProgramFile g os rel) (λ x. length (x .1)) a
   pub shred : {tre out : List ℕ} {l : Lent} → Bytes tre → tb-shred gra tre out l
-      → Writes (Under gra λ g es. DocumentFile g es tre) (λ x. tablesBytes (x .0) (x .1)) out l
+      → Writes ⊥ (Under gra λ g es. DocumentFile g es tre) (λ x. tablesBytes (x .0) (x .1)) out l
   pub rebuild : {edg out : List ℕ} {l : Lent} → Bytes edg → tb-rebuild gra edg out l
-      → Writes (Under gra λ g es. TablesFile g es edg) (λ x. documentBytes (x .1)) out l
+      → Writes ⊥ (Under gra λ g es. TablesFile g es edg) (λ x. documentBytes (x .1)) out l
   pub translate : {qry out : List ℕ} {l : Lent} → Bytes qry → tb-translate gra qry out l
-      → Writes (Under gra λ g p. QueryFile g p qry × (stepCount p ≤ stepLimit)) (λ x. programBytes (translated (x .0) (x .1))) out l
+      → Writes (TooLong gra qry) (Under gra λ g p. QueryFile g p qry × (stepCount p ≤ stepLimit)) (λ x. programBytes (translated (x .0) (x .1))) out l
   pub check : {rel : List ℕ} {c : Checked} → Bytes rel → tb-check gra rel c → Checks (Under gra λ g os. ProgramFile g os rel) c
   -- a run counts the nodes that it names, a listing its bytes
   pub run : {edg rel out work : List ℕ} {r : Ran} → Bytes edg → Bytes rel → tb-run gra edg rel out work r
-      → Runs (Under gra λ g (x : List Element × List Operation). TablesFile g (x .0) edg × ProgramFile g (x .1) rel)
+      → Runs ⊥ (Under gra λ g (x : List Element × List Operation). TablesFile g (x .0) edg × ProgramFile g (x .1) rel)
       (λ x. RunRoom (x .1 .0) (length (x .1 .1)) out work) (λ x. length (answer (view (x .1 .0)) (x .1 .1))) out work r
   pub select : {edg qry out work : List ℕ} {r : Ran} → Bytes edg → Bytes qry → tb-select gra edg qry out work r
-      → Runs (Under gra λ g (x : List Element × XPath). TablesFile g (x .0) edg × QueryFile g (x .1) qry × (stepCount (x .1) ≤ stepLimit))
+      → Runs (TooLongOver gra edg qry) (Under gra λ g (x : List Element × XPath). TablesFile g (x .0) edg × QueryFile g (x .1) qry × (stepCount (x .1) ≤ stepLimit))
       (λ x. RunRoom (x .1 .0) (stepCount (x .1 .1)) out work) (λ x. length (selected (view (x .1 .0)) (x .1 .1))) out work r
   pub list : {edg qry text work : List ℕ} {r : Ran} → Bytes edg → Bytes qry → tb-list gra edg qry text work r
-      → Runs (Under gra λ g (x : List Element × XPath). TablesFile g (x .0) edg × QueryFile g (x .1) qry × (stepCount (x .1) ≤ stepLimit))
+      → Runs (TooLongOver gra edg qry) (Under gra λ g (x : List Element × XPath). TablesFile g (x .0) edg × QueryFile g (x .1) qry × (stepCount (x .1) ≤ stepLimit))
       (λ x. TextRoom (x .1 .0) (stepCount (x .1 .1)) text work) (λ x. length (listing (view (x .1 .0)) (selected (view (x .1 .0)) (x .1 .1)))) text work r
 
 -- what a call wrote: as many bytes as it answers
