@@ -113,8 +113,9 @@ pub record Rest (old : List ℕ) (a : Answer) (new : List ℕ) : Type 0 where
   pub as-long : length new ≡ length old
   pub stays : (i : ℕ) → a .count ≤ i → getD new i 0 ≡ getD old i 0
 
--- A call that writes a file of what it read asks for the file's length and answers it. 11 is for files that are accepted but too
--- long (Long), 12 for want of room alone; refused, it leaves what it was lent as it came.
+-- A call that writes a file of what it read asks for the file's length and answers it. 11 says that the query takes too many steps
+-- (Long, which is ⊥ where no query is translated) and 12 that room is wanting, neither anything else. Refused, a call leaves what it
+-- was lent as it came.
 pub record Writes {X : Type 0} (Long : Type 0) (Files : X → Type 0) (file : X → List ℕ) (out : List ℕ) (l : Lent) : Type 0 where
   pub answers : Answers 12 (λ x. Files x × (length (file x) ≤ length out)) (λ x. length (file x)) (l .answer)
   pub long : l .answer .number ≡ 11 → Long
