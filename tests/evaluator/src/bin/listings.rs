@@ -5,7 +5,7 @@
 //! evaluator gives. A file that a case leaves out is missing from its folder.
 
 use evaluator::{calls, example};
-use std::io::Result;
+use std::io::{Error, ErrorKind, Result};
 use std::path::{Path, PathBuf};
 use std::process::{Command, ExitCode};
 use std::{env, fs};
@@ -74,7 +74,15 @@ fn printed_by(program: &PathBuf, folder: &Path, files: &Files) -> Result<Vec<u8>
             None => {}
         }
     }
-    Ok(Command::new(program).current_dir(folder).output()?.stdout)
+    let ended = Command::new(program)
+        .arg("not looked at")
+        .current_dir(folder)
+        .output()?;
+    if !ended.status.success() || !ended.stderr.is_empty() {
+        let why = format!("{} ended with {}", program.display(), ended.status);
+        return Err(Error::new(ErrorKind::Other, why));
+    }
+    Ok(ended.stdout)
 }
 
 /// What has to be printed. A file that isn't there has no bytes.
