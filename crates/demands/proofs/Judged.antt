@@ -19,14 +19,13 @@ use Rattle.meaning.specs.Documents.{View}
 use Rattle.meaning.proofs.Tests.{never}
 use Rattle.fields.specs.Read.{Read, got, refused, pick, mapped}
 use Rattle.fields.proofs.Formats.{got-same, refused-out}
-use Rattle.writing.specs.Lent.{Lent, turnedAway, accepted, over, stored, lent}
+use Rattle.writing.specs.Lent.{Lent, turnedAway, accepted, over, untouched, stored, lent}
 use Rattle.masks.specs.declared.Announced.{Announced}
 use Rattle.masks.proofs.Announcement.{none-shown}
 use Rattle.announce.specs.Check.{checked}
 use Rattle.writing.proofs.Puts.{over-front, over-length}
 use Rattle.rooms.specs.Layout.{workByte, overwritten}
 use Rattle.rooms.proofs.Layouts.{over-past, overwritten-past}
-use Rattle.rooms.proofs.Outcomes.{leaves-all}
 use Rattle.rooms.specs.Run.{Ran, leaves, bothUntouched}
 use Rattle.trammelbud.specs.Calls.{answerOf}
 use Rattle.demands.specs.Demands.{Answers, Rest, Checks}
@@ -112,21 +111,39 @@ unfolding answerOf mapped
 read-judged counts (got u n) = fitted (n, refl) tt refl
 read-judged counts (refused r) = turned refl refl tt
 
--- a file that is to be written
-pub lent-judged : (e : Read (List ℕ)) (out : List ℕ) → Judged e (λ file. length file ≤ length out) length (lent e out .bytes ≡ out) (lent e out .answer)
-unfolding lent stored
-lent-judged (got file n) out = by-room (leb (length file) (length out)) refl
+-- a file is stored, or there is no room for it
+stored-cases : (P : Lent → Type 0) (file out : List ℕ) → (length file ≤ length out → P (record { answer = accepted (length file); bytes = over 0 file out }))
+    → ((length file ≤ length out → ⊥) → P (untouched (record { reason = Room }) out)) → P (stored file out)
+unfolding stored
+stored-cases P file out fits lacks = by-room (leb (length file) (length out)) refl
   where
-    by-room : (b : Bool) → leb (length file) (length out) ≡ b
-        → let l = pick {A = Lent} b (record { answer = accepted (length file); bytes = over 0 file out }) (record { answer = turnedAway (record { reason = Room }); bytes = out }) in
-        Judged (got file n) (λ file. length file ≤ length out) length (l .bytes ≡ out) (l .answer)
-    by-room true e = fitted (n, refl) (leb-true (length file) (length out) e) refl
-    by-room false e = short (n, refl) (λ l. never (sym e ∙ le-leb (length file) (length out) l)) refl refl
-lent-judged (refused r) out = turned refl refl refl
+    by-room : (b : Bool) → leb (length file) (length out) ≡ b → P (pick b (record { answer = accepted (length file); bytes = over 0 file out }) (untouched (record { reason = Room }) out))
+    by-room true e = fits (leb-true (length file) (length out) e)
+    by-room false e = lacks λ l. never (sym e ∙ le-leb (length file) (length out) l)
 
--- what is to be left in two buffers
+-- so many bytes of the first buffer, and a room for each step
 abbrev pub Fitting : ℕ → List Operation → List ℕ → List ℕ → Type 0
 Fitting room os out work = (room ≤ length out) × (roomBytes (small .row) * length os ≤ length work)
+
+-- what is to be left in two buffers is left, or one of them is too short
+module _ (P : Ran → Type 0) (room : ℕ) (bytes : List ℕ) (d : View) (os : List Operation) (out work : List ℕ) where
+  abbrev all : Ran
+  all = record { answer = accepted (length bytes); out = over 0 bytes out; work = overwritten (workByte (small .row) d os) (roomBytes (small .row) * length os) work }
+
+  leaves-cases : (Fitting room os out work → P all) → ((Fitting room os out work → ⊥) → P (bothUntouched (record { reason = Room }) out work)) → P (leaves room bytes d os out work)
+  leaves-cases fits lacks = by-room (leb room (length out)) (leb (roomBytes (small .row) * length os) (length work)) refl refl
+    where
+      by-room : (a b : Bool) → leb room (length out) ≡ a → leb (roomBytes (small .row) * length os) (length work) ≡ b → P (pick (a && b) all (bothUntouched (record { reason = Room }) out work))
+      by-room true true e f = fits (leb-true room (length out) e, leb-true (roomBytes (small .row) * length os) (length work) f)
+      by-room true false e f = lacks λ l. never (sym f ∙ le-leb (roomBytes (small .row) * length os) (length work) (l .1))
+      by-room false b e f = lacks λ l. never (sym e ∙ le-leb room (length out) (l .0))
+
+-- a call that writes a file
+pub lent-judged : (e : Read (List ℕ)) (out : List ℕ) → Judged e (λ file. length file ≤ length out) length (lent e out .bytes ≡ out) (lent e out .answer)
+unfolding lent
+lent-judged (got file n) out =
+    stored-cases (λ l. Judged (got file n) (λ file. length file ≤ length out) length (l .bytes ≡ out) (l .answer)) file out (λ f. fitted (n, refl) f refl) (λ none. short (n, refl) none refl refl)
+lent-judged (refused r) out = turned refl refl refl
 
 abbrev pub Both : List ℕ → List ℕ → Ran → Type 0
 Both out work r = (r .out ≡ out) × (r .work ≡ work)
@@ -138,43 +155,28 @@ module _ {U : Type 0} (room : U → ℕ) (bytes : U → List ℕ) (d : U → Vie
   left (refused r) = bothUntouched r out work
 
   pub run-judged : (e : Read U) → Judged e (λ u. Fitting (room u) (os u) out work) (λ u. length (bytes u)) (Both out work (left e)) (left e .answer)
-  run-judged (got u n) = by-room (leb (room u) (length out)) (leb (roomBytes (small .row) * length (os u)) (length work)) refl refl
-    where
-      by-room : (a b : Bool) → leb (room u) (length out) ≡ a → leb (roomBytes (small .row) * length (os u)) (length work) ≡ b
-          → let r = pick {A = Ran} (a && b) (record { answer = accepted (length (bytes u)); out = over 0 (bytes u) out; work = overwritten (workByte (small .row) (d u) (os u)) (roomBytes (small .row) * length (os u)) work }) (bothUntouched (record { reason = Room }) out work) in
-          Judged (got u n) (λ u. Fitting (room u) (os u) out work) (λ u. length (bytes u)) (Both out work r) (r .answer)
-      by-room true true e f = fitted (n, refl) (leb-true (room u) (length out) e, leb-true (roomBytes (small .row) * length (os u)) (length work) f) refl
-      by-room true false e f = short (n, refl) (λ l. never (sym f ∙ le-leb (roomBytes (small .row) * length (os u)) (length work) (l .1))) refl (refl, refl)
-      by-room false b e f = short (n, refl) (λ l. never (sym e ∙ le-leb (room u) (length out) (l .0))) refl (refl, refl)
+  run-judged (got u n) =
+      leaves-cases (λ r. Judged (got u n) (λ u. Fitting (room u) (os u) out work) (λ u. length (bytes u)) (Both out work r) (r .answer)) (room u) (bytes u) (d u) (os u) out work
+      (λ f. fitted (n, refl) f refl) (λ none. short (n, refl) none refl (refl, refl))
   run-judged (refused r) = turned refl refl (refl, refl)
 
 -- past what was written a buffer is as it came
-pub over-rest : (file out : List ℕ) → length file ≤ length out → Rest out (accepted (length file)) (over 0 file out)
+over-rest : (file out : List ℕ) → length file ≤ length out → Rest out (accepted (length file)) (over 0 file out)
 over-rest file out fits = record { as-long = over-length 0 file out (omega (arith, fits)); stays = over-past file out }
 
+same-rest : (a : Answer) (out : List ℕ) → Rest out a out
+same-rest a out = record { as-long = refl; stays = λ i l. refl }
+
 pub lent-rest : (e : Read (List ℕ)) (out : List ℕ) → Rest out (lent e out .answer) (lent e out .bytes)
-unfolding lent stored
-lent-rest (got file n) out = by-room (leb (length file) (length out)) refl
-  where
-    by-room : (b : Bool) → leb (length file) (length out) ≡ b
-        → let l = pick {A = Lent} b (record { answer = accepted (length file); bytes = over 0 file out }) (record { answer = turnedAway (record { reason = Room }); bytes = out }) in
-        Rest out (l .answer) (l .bytes)
-    by-room true e = over-rest file out (leb-true (length file) (length out) e)
-    by-room false e = record { as-long = refl; stays = λ i l. refl }
-lent-rest (refused r) out = record { as-long = refl; stays = λ i l. refl }
+unfolding lent
+lent-rest (got file n) out = stored-cases (λ l. Rest out (l .answer) (l .bytes)) file out (over-rest file out) (λ none. same-rest _ out)
+lent-rest (refused r) out = same-rest _ out
 
 pub run-rest : {U : Type 0} (room : U → ℕ) (bytes : U → List ℕ) (d : U → View) (os : U → List Operation) (out work : List ℕ) (e : Read U) → ((u : U) → Came e u → length (bytes u) ≤ room u)
     → Rest out (left room bytes d os out work e .answer) (left room bytes d os out work e .out)
 run-rest room bytes d os out work (got u n) most =
-    by-room (leb (room u) (length out)) (leb (roomBytes (small .row) * length (os u)) (length work)) refl
-  where
-    by-room : (a b : Bool) → leb (room u) (length out) ≡ a
-        → let r = pick {A = Ran} (a && b) (record { answer = accepted (length (bytes u)); out = over 0 (bytes u) out; work = overwritten (workByte (small .row) (d u) (os u)) (roomBytes (small .row) * length (os u)) work }) (bothUntouched (record { reason = Room }) out work) in
-        Rest out (r .answer) (r .out)
-    by-room true true e = over-rest (bytes u) out (omega (arith, most u (n, refl), leb-true (room u) (length out) e))
-    by-room true false e = record { as-long = refl; stays = λ i l. refl }
-    by-room false b e = record { as-long = refl; stays = λ i l. refl }
-run-rest room bytes d os out work (refused r) most = record { as-long = refl; stays = λ i l. refl }
+    leaves-cases (λ r. Rest out (r .answer) (r .out)) (room u) (bytes u) (d u) (os u) out work (λ f. over-rest (bytes u) out (omega (arith, most u (n, refl), f .0))) (λ none. same-rest _ out)
+run-rest room bytes d os out work (refused r) most = same-rest _ out
 
 -- a check: it answers pairs where it counts nothing
 pub check-judged : {U : Type 0} (Takes : U → Type 0) (e : Read U) (sets : U → List Announced) → ((u : U) → Takes u → Came e u) → ((u : U) → Came e u → Takes u)
@@ -188,35 +190,20 @@ check-judged Takes (refused r) sets there back reason = record {
   alone = λ h s A B. ap (λ r. r A B) (none-shown stepLimit s);
 }
 
--- a call that accepts had its room
+-- a call that accepts had its room, and has written all its bytes
 pub stored-room : (file out : List ℕ) → stored file out .answer .number ≡ 0 → length file ≤ length out
-unfolding lent stored
-stored-room file out h = by (lent-judged (got file 0) out) h
-  where
-    by : {Stays : Type 0} {a : Answer} → Judged (got file 0) (λ file. length file ≤ length out) length Stays a → a .number ≡ 0 → length file ≤ length out
-    by (fitted c f is) h = rw (one-came (0, refl) c) f
-    by (short c f is k) h = absurd (omega (arith, h, ap (λ a. a .number) is))
-    by (turned p is k) h = refused-out (sym p)
+stored-room file out = stored-cases (λ l. l .answer .number ≡ 0 → length file ≤ length out) file out (λ f h. f) (λ none h. absurd (omega (arith, h)))
 
-pub leaves-room : (room : ℕ) (bytes : List ℕ) (d : View) (os : List Operation) (out work : List ℕ) → leaves room bytes d os out work .answer .number ≡ 0 → Fitting room os out work
-leaves-room room bytes d os out work h = by (run-judged (λ u. room) (λ u. bytes) (λ u. d) (λ u. os) out work (got tt 0)) h
-  where
-    by : {Stays : Type 0} {a : Answer} → Judged {U = Unit {0}} (got tt 0) (λ u. Fitting room os out work) (λ u. length bytes) Stays a → a .number ≡ 0 → Fitting room os out work
-    by (fitted c f is) h = f
-    by (short c f is k) h = absurd (omega (arith, h, ap (λ a. a .number) is))
-    by (turned p is k) h = refused-out (sym p)
+module _ (room : ℕ) (bytes : List ℕ) (d : View) (os : List Operation) (out work : List ℕ) where
+  pub leaves-room : leaves room bytes d os out work .answer .number ≡ 0 → Fitting room os out work
+  leaves-room = leaves-cases (λ r. r .answer .number ≡ 0 → Fitting room os out work) room bytes d os out work (λ f h. f) (λ none h. absurd (omega (arith, h)))
 
--- such a call has written all its bytes
-pub leaves-there : (room : ℕ) (bytes : List ℕ) (d : View) (os : List Operation) (out work : List ℕ) → let r = leaves room bytes d os out work in
-    r .answer .number ≡ 0 → (r .answer ≡ accepted (length bytes)) × (take (r .answer .count) (r .out) ≡ bytes)
-leaves-there room bytes d os out work h =
-    let (a, b) = leaves-room room bytes d os out work h in
-    rw (leaves-all room bytes d os out work a b) (refl, over-front bytes out)
+  pub leaves-there : let r = leaves room bytes d os out work in r .answer .number ≡ 0 → (r .answer ≡ accepted (length bytes)) × (take (r .answer .count) (r .out) ≡ bytes)
+  leaves-there =
+      leaves-cases (λ r. r .answer .number ≡ 0 → (r .answer ≡ accepted (length bytes)) × (take (r .answer .count) (r .out) ≡ bytes)) room bytes d os out work
+      (λ f h. (refl, over-front bytes out)) (λ none h. absurd (omega (arith, h)))
 
--- past its steps the work area is as it came
-pub leaves-past : (room : ℕ) (bytes : List ℕ) (d : View) (os : List Operation) (out work : List ℕ) (i : ℕ) → roomBytes (small .row) * length os ≤ i → getD (leaves room bytes d os out work .work) i 0 ≡ getD work i 0
-leaves-past room bytes d os out work i l = by-room (leb room (length out) && leb (roomBytes (small .row) * length os) (length work))
-  where
-    by-room : (b : Bool) → getD (pick {A = Ran} b (record { answer = accepted (length bytes); out = over 0 bytes out; work = overwritten (workByte (small .row) d os) (roomBytes (small .row) * length os) work }) (bothUntouched (record { reason = Room }) out work) .work) i 0 ≡ getD work i 0
-    by-room true = overwritten-past (workByte (small .row) d os) (roomBytes (small .row) * length os) work i l
-    by-room false = refl
+  -- past its steps the work area is as it came
+  pub leaves-past : (i : ℕ) → roomBytes (small .row) * length os ≤ i → getD (leaves room bytes d os out work .work) i 0 ≡ getD work i 0
+  leaves-past i l =
+      leaves-cases (λ r. getD (r .work) i 0 ≡ getD work i 0) room bytes d os out work (λ f. overwritten-past (workByte (small .row) d os) (roomBytes (small .row) * length os) work i l) (λ none. refl)
