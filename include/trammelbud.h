@@ -38,7 +38,9 @@
  * A graph has k types, 1 to 16; a document n elements, 1 to 127, numbered in
  * document order from 1, with 0 for the document node; a query at most 24
  * nodes; a program at most 24 steps. A kind is a type, or 16, the kind of the
- * document node.
+ * document node. Text number 0 stands for no text or empty text: a query or a
+ * program may ask for it, but text()=0 holds of no node, and TEXT 0 has no rows
+ * and announces no pairs.
  */
 #ifndef TRAMMELBUD_H
 #define TRAMMELBUD_H

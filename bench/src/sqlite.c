@@ -40,13 +40,16 @@ static void create_tables(struct sqlite *sqlite)
     run(sqlite, sql.bytes);
 }
 
+/* An element without text has no number there: NULL is equal to nothing. */
 static void insert_row(struct sqlite *sqlite, int type, const uint8_t *row)
 {
     unsigned from = row[0], to = row[1], number = row[2] << 8 | row[3];
     struct text sql;
     text_clear(&sql);
-    text_add(&sql, "INSERT INTO \"%s\" VALUES(%u, %u, %u);", type_names[type], from, to, number);
-    text_add(&sql, "INSERT INTO element VALUES(%u, %u, %d, %u);", to, from, type, number);
+    text_add(&sql, "INSERT INTO \"%s\" VALUES(%u, %u, NULLIF(%u, 0));",
+             type_names[type], from, to, number);
+    text_add(&sql, "INSERT INTO element VALUES(%u, %u, %d, NULLIF(%u, 0));",
+             to, from, type, number);
     run(sqlite, sql.bytes);
 }
 

@@ -4,7 +4,7 @@ import unittest
 
 import trammelbud
 
-from .example import DOCUMENT, GRAPH, LISTING, SELECTED, TABLES, query
+from .example import DOCUMENT, GRAPH, LISTING, SELECTED, TABLES, query, with_mark
 
 
 class Example(unittest.TestCase):
@@ -74,6 +74,15 @@ class Example(unittest.TestCase):
     def test_third_query_announces_nothing(self) -> None:
         announced = trammelbud.check(GRAPH, trammelbud.translate(GRAPH, query(3)))
         self.assertTrue(all(not announced.pairs(step) for step in range(24)))
+
+    def test_text_number_0_is_no_text(self) -> None:
+        empty_text = with_mark("QRY", 5, 1, 7, 3, 0x12, 0, 0)
+        self.assertEqual(trammelbud.select(GRAPH, TABLES, empty_text).nodes, ())
+        not_empty = with_mark("QRY", 5, 1, 7, 1, 0x13, 0x12, 0, 0)
+        self.assertEqual(trammelbud.select(GRAPH, TABLES, not_empty).nodes, tuple(range(9)))
+        text_0 = with_mark("REL", 1, 3, 0, 0)
+        self.assertEqual(trammelbud.run(GRAPH, TABLES, text_0).rows(0), set())
+        self.assertEqual(trammelbud.check(GRAPH, text_0).pairs(0), set())
 
     def test_listings(self) -> None:
         self.assertEqual(trammelbud.listing(GRAPH, TABLES, query(5)), LISTING)

@@ -6,20 +6,22 @@ use mathlib.Core.List.{List, []}
 use native.Mathlib.Omega.{arith}
 use lib.Bits.{bitAnd}
 use lib.Dec.{eqb}
-use borrow.Author.Tests.{eqb-true, eqb-false, not-true}
+use borrow.Author.Tests.{eqb-true, eqb-false, lt-ltb, not-true}
 use Rattle.meaning.specs.declared.Graph.{Graph}
 use Rattle.meaning.specs.declared.Operation.{Operation}
 use Rattle.meaning.specs.declared.Operation.the-variants.{Table, Itself, Text, Join, Union, Closure, Has, Diff, Both}
 use Rattle.meaning.specs.Limits.{kinds, types, document}
 use Rattle.meaning.specs.Sets.{bit, mask}
 use Rattle.meaning.specs.inside.Diagonal.{diagonal}
-use Rattle.meaning.specs.Relations.{Relation, join, unite, has, intersection, closure, at}
+use Rattle.meaning.specs.Relations.{Relation, nothing, join, unite, has, intersection, closure, at}
 use Rattle.meaning.specs.Graphs.{LegalGraph, childKind, live}
+use Rattle.meaning.specs.Documents.{isText}
 use Rattle.meaning.specs.Announcements.{pairs}
 use Rattle.meaning.proofs.Tests.{same, and-left, and-where, not-in}
 use Rattle.meaning.proofs.Sets.{bit-mask, mask-below}
 use Rattle.meaning.proofs.KindSets.{live-small, edges-on}
 use Rattle.meaning.proofs.Bits.{bit-and, bits-of-mask}
+use Rattle.meaning.proofs.Theorems.{text-0-announces-no-pairs}
 use Rattle.kinds.proofs.KindMasks.{chosen-bits}
 use Rattle.masks.specs.declared.Announced.{Announced}
 use Rattle.masks.specs.Announcement.{relOf}
@@ -70,11 +72,14 @@ module _ (g : Graph) (legal : LegalGraph g) where
     unfolding pairs diagonal
     itself-shown l e q h = h ∙ rw (e, live-bits l q)
 
-    pub text-shown : (l : ℕ) {c : ℕ} → o ≡ Text c → l ≡ mask kinds (live g) → relOf r ≡ diagonal (bit (bitAnd l 0xFFFF)) → relOf r ≡ pairs g ps o
-    unfolding pairs diagonal
-    text-shown l e q h =
+    pub text-none-shown : {c : ℕ} → o ≡ Text c → c ≡ 0 → relOf r ≡ nothing → relOf r ≡ pairs g ps o
+    text-none-shown e z h = h ∙ rw (e, z) (fun-ext λ A. fun-ext λ B. sym (text-0-announces-no-pairs g ps A B))
+
+    pub text-shown : (l : ℕ) {c : ℕ} → o ≡ Text c → (c ≡ 0 → ⊥) → l ≡ mask kinds (live g) → relOf r ≡ diagonal (bit (bitAnd l 0xFFFF)) → relOf r ≡ pairs g ps o
+    unfolding pairs diagonal isText
+    text-shown l {c} e some q h =
         h ∙ rw e (fun-ext λ A. fun-ext λ B. ap (λ t. eqb A B && t) (bit-and A l 0xFFFF
-        ∙ rw (live-bits l q) (and-where (live g A) (λ k. no-document A (live-small g legal A k)))))
+        ∙ rw (live-bits l q, lt-ltb 0 c (omega arith)) (and-where (live g A) (λ k. no-document A (live-small g legal A k)))))
 
     pub diff-shown : {a b : ℕ} → o ≡ Diff a b → relOf r ≡ at ps (operandsOf o .0) → relOf r ≡ pairs g ps o
     unfolding pairs
@@ -102,4 +107,4 @@ module _ (g : Graph) (legal : LegalGraph g) where
         unfolding pairs
         both-shown e h = h ∙ rw (p, q, e)
 
-pub ruleset laws = (read-as, live-kinds, some-kinds, table-row, table-from, table-shown, itself-shown, text-shown, diff-shown, closure-shown, has-shown, join-shown, union-shown, both-shown, algebra)
+pub ruleset laws = (read-as, live-kinds, some-kinds, table-row, table-from, table-shown, itself-shown, text-none-shown, text-shown, diff-shown, closure-shown, has-shown, join-shown, union-shown, both-shown, algebra)

@@ -181,7 +181,14 @@ fn pairs(g: Graph, operation: Operation, a: Announced, b: Announced) -> Announce
     match operation {
         Operation::Table(mask) => table(g, mask),
         Operation::Itself => diagonal(kinds::live(g)),
-        Operation::Text(_) => diagonal(kinds::live(g) & TYPES),
+        // 0 is the number of no text.
+        Operation::Text(number) => {
+            if number == 0 {
+                nothing()
+            } else {
+                diagonal(kinds::live(g) & TYPES)
+            }
+        }
         Operation::Join(_, _) => mixed(Mix::Joined, a, b),
         Operation::Union(_, _) => mixed(Mix::Either, a, b),
         Operation::Closure(_) => closure(a),

@@ -8,7 +8,7 @@ use Rattle.meaning.specs.declared.Operation.the-variants.{Table, Itself,
 use Rattle.meaning.specs.Sets.{any, listed, bit, mask}
 use Rattle.meaning.specs.Relations.{join, unite, has, difference, intersection, within, closure, at}
 use Rattle.meaning.specs.Graphs.{childKind, reachable, live}
-use Rattle.meaning.specs.Documents.{View, some, isElement, isParent, above, below, textTest, node, view}
+use Rattle.meaning.specs.Documents.{View, some, isElement, isParent, above, below, isText, textTest, node, view}
 use Rattle.meaning.specs.Queries.{XPath, self, child, anyChild, slash, slashes, union, filter, reached, textIs, isNot, both, either, orBelow, reaches, holds, selected, pathCount, queryNodes}
 use Rattle.meaning.specs.Operations.{last, rows, results, run, answer}
 use Rattle.meaning.specs.Announcements.{pairs, announced}
@@ -77,7 +77,7 @@ table =
 
 -- C1 to C14: each row is what is computed from its query.
 fourteen : map (λ r. computed (r .query)) table ≡ table
-unfolding graph element document computed row table any listed bit mask join unite has difference intersection within closure childKind reachable live some isElement isParent above below textTest node view orBelow reaches holds selected last rows results run answer pairs announced image only together orReachable out step then thenBoth descend path translated
+unfolding graph element document computed row table any listed bit mask join unite has difference intersection within closure childKind reachable live some isElement isParent above below isText textTest node view orBelow reaches holds selected last rows results run answer pairs announced image only together orReachable out step then thenBoth descend path translated
 fourteen = refl
 
 -- C5 takes eight steps.

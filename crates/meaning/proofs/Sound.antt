@@ -13,7 +13,7 @@ use Rattle.meaning.specs.Limits.{document, kinds}
 use Rattle.meaning.specs.Sets.{any, bit}
 use Rattle.meaning.specs.Relations.{Relation, join, unite, has, difference, intersection, closure, at}
 use Rattle.meaning.specs.Graphs.{LegalGraph, childKind, live}
-use Rattle.meaning.specs.Documents.{View, isElement, isParent, textTest}
+use Rattle.meaning.specs.Documents.{View, isElement, isParent, isText, textTest}
 use Rattle.meaning.specs.Operations.{last, rows, run, answer}
 use Rattle.meaning.specs.Announcements.{pairs, announced}
 use Rattle.meaning.proofs.Tests.{never, and-in, and-left, and-right, or-left, or-right, or-out, not-in}
@@ -21,7 +21,7 @@ use Rattle.meaning.proofs.Sets.{any-in, any-out, listed-none}
 use Rattle.meaning.proofs.Closure.{closure-sound, closure-complete, steps-map}
 use Rattle.meaning.proofs.Ends.{Ends, diagonal-ends, join-ends, unite-ends, has-ends, intersection-ends, closure-ends}
 use Rattle.meaning.proofs.Results.{results-agree}
-use Rattle.meaning.proofs.Views.{Lawful, element-there, parent-element, parent-is, test-element}
+use Rattle.meaning.proofs.Views.{Lawful, element-there, parent-element, parent-is, test-element, test-text}
 use Rattle.meaning.proofs.KindSets.{edge-types, live-child, live-small}
 use Rattle.meaning.proofs.NodeKinds.{edge-below, kind-small, kinds-live}
 use Rattle.meaning.proofs.Runs.{OnNodes, rows-nodes}
@@ -40,7 +40,7 @@ module _ (g : Graph) (legal : LegalGraph g) where
   unfolding pairs
   pairs-live ps (Table m) on = table-live (bit m)
   pairs-live ps Itself on = diagonal-ends _ (live g) (λ A l. l)
-  pairs-live ps (Text c) on = diagonal-ends _ (λ A. live g A && not (eqb A document)) (λ A h. and-left (live g A) _ h)
+  pairs-live ps (Text c) on = diagonal-ends _ _ (λ A h. and-left (live g A) _ (and-right (isText c) _ h))
   pairs-live ps (Join a b) on = join-ends _ kinds (at ps a) (at ps b) (on a) (on b)
   pairs-live ps (Union a b) on = unite-ends _ (at ps a) (at ps b) (on a) (on b)
   pairs-live ps (Closure a) on = closure-ends _ kinds (at ps a) (on a)
@@ -74,11 +74,12 @@ module _ (g : Graph) (legal : LegalGraph g) where
     covers-diagonal f h k v w e =
         and-in (eq-eqb (d .kind v) (d .kind w) (ap (d .kind) (eqb-true v w (and-left (eqb v w) (f v) e)))) (k v (and-right (eqb v w) (f v) e))
 
-    text-kinds : (c v : ℕ) → textTest d c v ≡ true → live g (d .kind v) && not (eqb (d .kind v) document) ≡ true
+    text-kinds : (c v : ℕ) → textTest d c v ≡ true → isText c && (live g (d .kind v) && not (eqb (d .kind v) document)) ≡ true
     text-kinds c v h =
         let e : isElement d v ≡ true = test-element d c v h in
-        and-in (kinds-live g legal d keeps v (element-there d v e))
-        (not-in (eqb (d .kind v) document) (λ q. omega (arith, eqb-true (d .kind v) document q, edge-types g legal _ (d .kind v) (keeps .edge v e), legal .most-types)))
+        and-in (test-text d c v h)
+        (and-in (kinds-live g legal d keeps v (element-there d v e))
+        (not-in (eqb (d .kind v) document) (λ q. omega (arith, eqb-true (d .kind v) document q, edge-types g legal _ (d .kind v) (keeps .edge v e), legal .most-types))))
 
     covers-join : (r s p q : Relation) → OnNodes d r → Covers r p → Covers s q → Covers (join (d .size) r s) (join kinds p q)
     unfolding join
@@ -115,7 +116,7 @@ module _ (g : Graph) (legal : LegalGraph g) where
     unfolding rows pairs
     covers-step rs ps (Table m) a = covers-table m
     covers-step rs ps Itself a = covers-diagonal (d .there) (live g) (kinds-live g legal d keeps)
-    covers-step rs ps (Text c) a = covers-diagonal (textTest d c) (λ A. live g A && not (eqb A document)) (text-kinds c)
+    covers-step rs ps (Text c) a = covers-diagonal (textTest d c) (λ A. isText c && (live g A && not (eqb A document))) (text-kinds c)
     covers-step rs ps (Join x y) a = covers-join (at rs x) (at rs y) (at ps x) (at ps y) (a x .nodes) (a x .covers) (a y .covers)
     covers-step rs ps (Union x y) a = covers-unite (at rs x) (at rs y) (at ps x) (at ps y) (a x .covers) (a y .covers)
     covers-step rs ps (Closure x) a = covers-closure (at rs x) (at ps x) (a x .live) (a x .covers)

@@ -13,7 +13,7 @@ use Rattle.meaning.specs.declared.Element.{Element}
 use Rattle.meaning.specs.Limits.{document}
 use Rattle.meaning.specs.Relations.{OneOrMore, one, more}
 use Rattle.meaning.specs.Graphs.{childKind}
-use Rattle.meaning.specs.Documents.{View, isElement, isParent, above, below, textTest, view, node, parentRule, edgeRule, Accepted}
+use Rattle.meaning.specs.Documents.{View, isElement, isParent, above, below, isText, textTest, view, node, parentRule, edgeRule, Accepted}
 use Rattle.meaning.proofs.Tests.{never, and-in, and-left, and-right, and-where, or-left, or-right, or-out}
 
 -- All that the theorems ask of a view.
@@ -47,7 +47,16 @@ is-parent d w h = and-in h (eq-eqb (d .parent w) (d .parent w) refl)
 
 pub test-element : (d : View) (c v : ℕ) → textTest d c v ≡ true → isElement d v ≡ true
 unfolding textTest
-test-element d c v h = and-left (isElement d v) (eqb (d .text v) c) h
+test-element d c v h = and-left (isElement d v) _ (and-right (isText c) _ h)
+
+pub test-text : (d : View) (c v : ℕ) → textTest d c v ≡ true → isText c ≡ true
+unfolding textTest
+test-text d c v h = and-left (isText c) _ h
+
+-- 0 is the number of no text
+pub test-none : (d : View) (v : ℕ) → textTest d 0 v ≡ false
+unfolding textTest isText
+test-none d v = refl
 
 above-there : (d : View) (k v w : ℕ) → above k d v w ≡ true → d .there w ≡ true
 unfolding above

@@ -9,13 +9,14 @@ use Rattle.meaning.specs.Limits.{kinds, document}
 use Rattle.meaning.specs.Sets.{bit}
 use Rattle.meaning.specs.Relations.{Relation, join, unite, has, intersection, closure, at}
 use Rattle.meaning.specs.Graphs.{childKind, live}
+use Rattle.meaning.specs.Documents.{isText}
 use Rattle.meaning.specs.Operations.{results}
 
 -- the pairs of an operation, from those announced so far
 unfoldable pub pairs : Graph → List Relation → Operation → Relation
 pairs g ps (Table m) A B = live g A && (childKind g A B && bit m B)
 pairs g ps Itself A B = eqb A B && live g A
-pairs g ps (Text c) A B = eqb A B && (live g A && not (eqb A document))
+pairs g ps (Text c) A B = eqb A B && (isText c && (live g A && not (eqb A document)))
 pairs g ps (Join a b) A B = join kinds (at ps a) (at ps b) A B
 pairs g ps (Union a b) A B = unite (at ps a) (at ps b) A B
 pairs g ps (Closure a) A B = closure kinds (at ps a) A B

@@ -43,9 +43,13 @@ above (suc k) d v w = isElement d w && (eqb (d .parent w) v || above k d v (d .p
 unfoldable pub below : View → Relation
 below d v w = above (d .size) d v w
 
--- v is an element with the text number c, which may be 0; node 0 never passes
+-- c is the number of a text: 0 stands for no text or empty text, and a text node of XPath 1.0 has at least one character
+unfoldable pub isText : ℕ → Bool
+isText c = ltb 0 c
+
+-- c is the number of a text, and v an element that has it; node 0 never passes
 unfoldable pub textTest : View → ℕ → ℕ → Bool
-textTest d c v = isElement d v && eqb (d .text v) c
+textTest d c v = isText c && (isElement d v && eqb (d .text v) c)
 
 abbrev pub documentNode : Element
 documentNode = record { parent = 0; kind = document; text = 0 }

@@ -61,7 +61,8 @@ pub(crate) fn table(
     }
 }
 
-// What is asked of a number: nothing, that its element has a text number, or that the room at a place has a row from it.
+// What is asked of a number: nothing, that its element has a text of this number, which is not 0, or that the room at a place
+// has a row from it.
 pub enum Test {
     Always,
     Text(u16),
@@ -75,6 +76,9 @@ fn passes(work: &[u8], kept: &[u32], count: usize, test: Test, v: usize, width: 
     match test {
         Test::Always => true,
         Test::Text(number) => {
+            if number == 0 {
+                return false;
+            }
             if v == 0 {
                 return false;
             }

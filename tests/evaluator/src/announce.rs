@@ -5,6 +5,7 @@ use crate::graph::Graph;
 use crate::kinds::{Kinds, DOCUMENT, KINDS};
 use crate::program::Step;
 use crate::relation::Relation;
+use crate::text::is_text;
 
 /// For each step and each kind A, the set of kinds B with the pair (A, B).
 pub type Announcement = [[u32; KINDS]; MOST_STEPS];
@@ -28,7 +29,7 @@ fn pairs(graph: &Graph, steps: &[Step]) -> Vec<Relation> {
         let pairs = match *step {
             Step::Table(mask) => table(graph, live, mask),
             Step::Own => identity(live),
-            Step::Text(_) => identity(Kinds(live.0 & !Kinds::only(DOCUMENT).0)),
+            Step::Text(number) => text(live, number),
             Step::Join(a, b) => made[a].join(&made[b]),
             Step::Union(a, b) => made[a].union(&made[b]),
             Step::Lfp(a) => made[a].closure(),
@@ -49,6 +50,15 @@ fn table(graph: &Graph, live: Kinds, mask: u16) -> Relation {
         }
     }
     pairs
+}
+
+/// The document node has no text, and an element of any live type may have any.
+fn text(live: Kinds, number: u16) -> Relation {
+    if is_text(number) {
+        identity(Kinds(live.0 & !Kinds::only(DOCUMENT).0))
+    } else {
+        Relation::empty()
+    }
 }
 
 fn identity(kinds: Kinds) -> Relation {

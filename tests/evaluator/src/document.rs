@@ -3,6 +3,7 @@
 use crate::bits;
 use crate::graph::Graph;
 use crate::kinds::DOCUMENT;
+use crate::text::{is_text, NO_TEXT};
 
 /// The document node's number.
 pub const ROOT: usize = 0;
@@ -24,7 +25,7 @@ impl Document {
         Document {
             nodes: vec![Node {
                 kind: DOCUMENT,
-                text: 0,
+                text: NO_TEXT,
                 children: Vec::new(),
             }],
         }
@@ -61,9 +62,9 @@ impl Document {
         graph.children(self.node(parent).kind).has(kind)
     }
 
-    /// The text test: no number is the document node's own.
+    /// The text test. The document node has no text, so it never holds there.
     pub fn has_text(&self, number: usize, text: u16) -> bool {
-        number != ROOT && self.node(number).text == text
+        is_text(text) && self.node(number).text == text
     }
 
     /// The node and every node below it.

@@ -25,6 +25,7 @@ pub mod refusal;
 pub mod relation;
 pub mod runner;
 pub mod tables;
+pub mod text;
 #[cfg(feature = "archive")]
 pub mod trammelbud;
 pub mod translate;

@@ -38,7 +38,7 @@ pub enum Path {
 pub enum Qualifier {
     /// Some node is reached.
     Some(Path),
-    /// The node's own text number equals.
+    /// The node's text is the one with this number.
     Text(u16),
     Not(Box<Qualifier>),
     And(Box<Qualifier>, Box<Qualifier>),

@@ -1,5 +1,5 @@
 //! What docs/RULES.md says of bounds that are just kept or passed (18.8 to
-//! 18.12), of rooms and of rows.
+//! 18.12), of rooms, of rows and of text number 0.
 
 mod common;
 
@@ -100,15 +100,20 @@ fn a_step_0_with_an_operand_is_9() {
 
 #[test]
 fn a_mask_of_0_yields_no_rows() {
-    let edg = shredded(&loop_graph(), &chain(3));
+    yields_no_rows([1, 0, 0]);
+}
+
+#[test]
+fn text_0_yields_no_rows() {
+    yields_no_rows([3, 0, 0]);
+}
+
+/// A step alone, over elements that all have text number 0.
+fn yields_no_rows(step: [u8; 3]) {
+    let (gra, edg) = (loop_graph(), shredded(&loop_graph(), &chain(3)));
+    let program = rel(&[&[1], &step[..]].concat());
     let (mut out, mut work) = ([7; 4], [7; 2048]);
-    let answer = calls::run(
-        &loop_graph(),
-        &edg,
-        &rel(&[1, 1, 0, 0]),
-        &mut out,
-        &mut work,
-    );
+    let answer = calls::run(&gra, &edg, &program, &mut out, &mut work);
     assert_eq!((answer.number, answer.count), (0, 0));
     assert_eq!((out, work), ([7; 4], [0; 2048]));
 }
@@ -145,16 +150,37 @@ fn a_closure_may_go_round() {
 }
 
 #[test]
-fn text_0_is_a_text_and_never_the_document_nodes() {
-    let edg = shredded(&loop_graph(), &chain(3));
-    let (mut out, mut work) = ([0; 4], [0; 2048]);
-    let select = |path: &[u8], out: &mut [u8], work: &mut [u8]| {
-        calls::select(&loop_graph(), &edg, &qry(path), out, work).count
+fn text_0_is_no_text() {
+    // Element 2 has text 7, elements 1 and 3 have none.
+    let tokens = [1, 0, 0, 0, 1, 0, 0, 7, 2, 1, 0, 0, 0, 2, 2];
+    let edg = shredded(&loop_graph(), &tre(&tokens));
+    let selected = |path: &[u8]| {
+        let (mut out, mut work) = ([0; 4], [0; 12 * 2048]);
+        let answer = calls::select(&loop_graph(), &edg, &qry(path), &mut out, &mut work);
+        assert_eq!(answer.number, 0);
+        out[..answer.count as usize].to_vec()
     };
-    assert_eq!(select(&[7, 1, 0x12, 0, 0], &mut out, &mut work[..]), 0);
-    let mut work = [0; 10 * 2048];
-    // .//.[text()=0]
-    assert_eq!(select(&[5, 1, 7, 1, 0x12, 0, 0], &mut out, &mut work), 3);
+    // .[text()=0], then .//.[q] with text()=0 and text()=7, and with not of them.
+    assert_eq!(selected(&[7, 1, 0x12, 0, 0]), []);
+    assert_eq!(selected(&[5, 1, 7, 1, 0x12, 0, 0]), []);
+    assert_eq!(selected(&[5, 1, 7, 1, 0x12, 0, 7]), [2]);
+    assert_eq!(selected(&[5, 1, 7, 1, 0x13, 0x12, 0, 0]), [0, 1, 2, 3]);
+    assert_eq!(selected(&[5, 1, 7, 1, 0x13, 0x12, 0, 7]), [0, 1, 3]);
+}
+
+#[test]
+fn text_0_is_read_counted_and_translated() {
+    // .[text()=0], and SELF, TEXT and the JOIN of the two.
+    let (gra, path) = (loop_graph(), qry(&[7, 1, 0x12, 0, 0]));
+    let program = rel(&[3, 2, 0, 0, 3, 0, 0, 4, 0, 1]);
+    let answer = calls::read_query(&gra, &path);
+    assert_eq!((answer.number, answer.count), (0, 3));
+    let answer = calls::read_program(&gra, &program);
+    assert_eq!((answer.number, answer.count), (0, 3));
+    let mut out = [7; 15];
+    let answer = calls::translate(&gra, &path, &mut out);
+    assert_eq!((answer.number, answer.count), (0, 15));
+    assert_eq!(out[..], program);
 }
 
 #[test]
@@ -237,7 +263,7 @@ fn each_file_is_read_to_its_end_before_the_next() {
 fn kinds_that_are_not_live_are_in_no_pair() {
     // Type 0 is the root and alone; types 1 and 2 hold each other.
     let gra = gra(0, &[0, 4, 2]);
-    let program = rel(&[4, 2, 0, 0, 3, 0, 0, 1, 0, 7, 6, 2, 0]);
+    let program = rel(&[4, 2, 0, 0, 3, 0, 9, 1, 0, 7, 6, 2, 0]);
     let checked = calls::check(&gra, &program);
     assert_eq!(checked.number, 0);
     for (step, pairs) in checked.steps.iter().enumerate() {
@@ -251,6 +277,20 @@ fn kinds_that_are_not_live_are_in_no_pair() {
             assert_eq!(kinds, expected, "step {step} kind {kind}");
         }
     }
+}
+
+#[test]
+fn text_0_announces_no_pair() {
+    // Types 0, the root, and 1 hold each other; type 2 is not live.
+    let gra = gra(0, &[2, 1, 4]);
+    // TEXT with 0, with a lower byte alone and with a higher one alone.
+    let program = rel(&[3, 3, 0, 0, 3, 0, 1, 3, 1, 0]);
+    let checked = calls::check(&gra, &program);
+    assert_eq!(checked.number, 0);
+    let none = [0; 17];
+    let mut live_types = none;
+    live_types[..2].copy_from_slice(&[1, 2]);
+    assert_eq!(checked.steps[..3], [none, live_types, live_types]);
 }
 
 /// The rooms that `include/trammelbud.h` calls enough for every input.

@@ -104,6 +104,7 @@ fn cases() -> Vec<Case> {
     cases.extend(cut());
     cases.extend(longer());
     cases.extend(edges());
+    cases.extend(texts());
     cases.extend(longest());
     cases
 }
@@ -190,19 +191,25 @@ fn longer() -> Vec<Case> {
 fn edges() -> Vec<Case> {
     let slashes = |count: usize| [vec![5; count], [2, 2].repeat(count + 1)].concat();
     let not = [vec![4; 10], vec![7, 1, 0x13, 0x12, 0, 7], vec![1; 10]].concat();
-    [
-        ("three //", slashes(3)),
-        ("four //", slashes(4)),
-        ("24 nodes with one not", not),
+    vec![
+        asked("three //", &slashes(3)),
+        asked("four //", &slashes(4)),
+        asked("24 nodes with one not", &not),
     ]
-    .into_iter()
-    .map(|(name, path)| {
-        case(
-            name.to_string(),
-            sound([b"QRY\0\x01".to_vec(), path].concat()),
-        )
-    })
-    .collect()
+}
+
+/// Some of the example's elements have text number 0, which is no text's.
+fn texts() -> Vec<Case> {
+    vec![
+        asked(".//.[text()=0]", &[5, 1, 7, 1, 0x12, 0, 0]),
+        asked(".//.[not(text()=0)]", &[5, 1, 7, 1, 0x13, 0x12, 0, 0]),
+    ]
+}
+
+/// A path, asked of the example's document.
+fn asked(name: &str, path: &[u8]) -> Case {
+    let qry = [&b"QRY\0\x01"[..], path].concat();
+    case(name.to_string(), sound(qry))
 }
 
 /// The longest listing there is: 127 elements with types of two digits and text

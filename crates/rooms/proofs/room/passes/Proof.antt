@@ -13,6 +13,7 @@ passes-spec =
     (λ c. search test-laws)
     (λ c. search test-laws)
     (λ c. search test-laws)
+    (λ c. search test-laws)
     (λ c κs. search test-laws)
     (λ c. search test-laws)
     (λ c κs. search test-laws)

@@ -14,6 +14,7 @@ mod archive;
 mod arguments;
 mod call;
 mod case;
+mod contents;
 mod damage;
 mod mutants;
 mod pose;

@@ -3,6 +3,7 @@
 
 use crate::call::Call;
 use crate::case::{expected, Case, Outcome};
+use crate::contents::Contents;
 use crate::shrink::shrink;
 use crate::stream::Stream;
 use evaluator::query::code;
@@ -277,6 +278,31 @@ const MUTANTS: &[Mutant] = &[
         spoil: |case, outcome| {
             if accepted(case, outcome, &[Call::Run]) && case.files[2][6] == 2 {
                 outcome.lent[1][0] &= !1;
+            }
+        },
+    },
+    Mutant {
+        name: "a TEXT 0 with rows",
+        spoil: |case, outcome| {
+            if accepted(case, outcome, &[Call::Run]) {
+                let contents = Contents::of(case);
+                for step in contents.text_0_steps() {
+                    let room = &mut outcome.lent[1][STEP_ROOM * step..];
+                    for v in contents.textless() {
+                        room[16 * v + v / 8] |= 1 << (v % 8);
+                    }
+                }
+            }
+        },
+    },
+    Mutant {
+        name: "a TEXT 0 that announces the root type",
+        spoil: |case, outcome| {
+            if accepted(case, outcome, &[Call::Check]) {
+                let root = case.files[0][6];
+                for step in Contents::of(case).text_0_steps() {
+                    outcome.announced[step][usize::from(root)] |= 1 << root;
+                }
             }
         },
     },

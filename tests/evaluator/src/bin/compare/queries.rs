@@ -159,7 +159,8 @@ impl Drafting<'_> {
                 let text = *self.rng.pick(&self.world.texts);
                 self.draft.qry.extend(text.to_be_bytes());
             }
-            (2.., 0) if self.spend(1) => {
+            // Of two nodes more often, which makes it the not of a text test.
+            (2, 0 | 1) | (3.., 0) if self.spend(1) => {
                 self.code(code::NOT);
                 self.qualifier(nodes - 1, context);
             }

@@ -3,6 +3,7 @@
 
 use crate::call::Call;
 use crate::case::{Case, Outcome};
+use crate::contents::Contents;
 use evaluator::bounds::{MOST_ELEMENTS, MOST_NODES, MOST_QUERY_NODES, MOST_STEPS};
 use evaluator::document::{Document, ROOT};
 use evaluator::graph::Graph;
@@ -10,7 +11,7 @@ use evaluator::kinds::Kinds;
 use evaluator::program::{self, op, Step};
 use evaluator::query::{code, Path, Qualifier, Query};
 use evaluator::refusal::File;
-use evaluator::{tables, tree};
+use evaluator::text::NO_TEXT;
 
 /// How often each thing was met, in the order of its first mention here.
 pub struct Reach {
@@ -41,6 +42,11 @@ impl Reach {
         if calls.contains(&Call::Run) || calls.contains(&Call::Select) {
             name(&SELECTIONS);
         }
+        for (by, text_0) in TEXT_0 {
+            if by.iter().any(|call| calls.contains(call)) {
+                name(&[text_0]);
+            }
+        }
         Reach {
             met: names.into_iter().map(|name| (name, 0)).collect(),
         }
@@ -57,18 +63,18 @@ impl Reach {
 
     /// Looks into an accepted case.
     pub fn look(&mut self, case: &Case, outcome: &Outcome) {
-        let accepted = "the case was accepted";
-        let graph = Graph::read(&case.files[0]).expect(accepted);
-        self.graph(&graph);
-        for (file, bytes) in case.call.files().iter().zip(&case.files) {
-            match file {
-                File::Graph => {}
-                File::Document => self.document(&tree::read(&graph, bytes).expect(accepted)),
-                File::Tables => self.document(&tables::read(&graph, bytes).expect(accepted)),
-                File::Query => self.query(&Query::read(&graph, bytes).expect(accepted)),
-                File::Program => self.program(&program::read(&graph, bytes).expect(accepted)),
-            }
+        let contents = Contents::of(case);
+        self.graph(&contents.graph);
+        if let Some(document) = &contents.document {
+            self.document(document);
         }
+        if let Some(query) = &contents.query {
+            self.query(query);
+        }
+        if let Some(steps) = &contents.program {
+            self.program(steps);
+        }
+        self.text_0(case.call, &contents);
         match case.call {
             Call::Translate => self.note(
                 outcome.lent[0][5] == MOST_STEPS as u8,
@@ -111,14 +117,13 @@ impl Reach {
         self.note(full && most_children == Some(MOST_ELEMENTS - 1), star);
         let kinds = elements().fold(0, |kinds, node| kinds | Kinds::only(node.kind).types());
         self.note(kinds == 0xFFFF, types);
-        self.note(elements().any(|node| node.text == 0), none);
+        self.note(elements().any(|node| node.text == NO_TEXT), none);
         self.note(elements().any(|node| node.text == 0xFFFF), last);
     }
 
     fn query(&mut self, query: &Query) {
         self.note(query.nodes == MOST_QUERY_NODES, "query of 24 nodes");
-        let mut codes = Vec::new();
-        path_codes(&query.path, &mut codes);
+        let codes = Nodes::of(query).codes;
         for (code, name) in CODES {
             self.note(codes.contains(&code), name);
         }
@@ -138,6 +143,21 @@ impl Reach {
         self.note(nodes.len() == MOST_NODES, all);
         self.note(nodes.contains(&(ROOT as u8)), root);
         self.note(nodes.contains(&(MOST_ELEMENTS as u8)), last);
+    }
+
+    fn text_0(&mut self, call: Call, contents: &Contents) {
+        let [checked, run, asked, denied] = TEXT_0.map(|(_, name)| name);
+        let made = !contents.text_0_steps().is_empty();
+        let textless = !contents.textless().is_empty();
+        self.note(call == Call::Check && made, checked);
+        self.note(call == Call::Run && made && textless, run);
+        // A query that stands beside a document is asked of it.
+        let asks = |wanted: fn(&Qualifier) -> bool| {
+            let query = contents.query.iter();
+            query.flat_map(|it| Nodes::of(it).qualifiers).any(wanted)
+        };
+        self.note(textless && asks(is_text_0), asked);
+        self.note(textless && asks(is_not_text_0), denied);
     }
 }
 
@@ -162,6 +182,16 @@ const SELECTIONS: [&str; 4] = [
     "node 0 selected",
     "node 127 selected",
 ];
+
+/// Where it shows that 0 is no text's number, with the calls that can meet it.
+const TEXT_0: [(&[Call], &str); 4] = [
+    (&[Call::Check], "TEXT 0 checked"),
+    (&[Call::Run], "TEXT 0 run over elements without text"),
+    (&ASKING, "text()=0 asked of elements without text"),
+    (&ASKING, "not(text()=0) asked of elements without text"),
+];
+
+const ASKING: [Call; 2] = [Call::Select, Call::List];
 
 const CODES: [(u8, &str); 12] = [
     (code::OWN, "query with self"),
@@ -190,38 +220,64 @@ const OPERATIONS: [(u8, &str); 9] = [
     (op::AND, "program with AND"),
 ];
 
-fn path_codes(path: &Path, codes: &mut Vec<u8>) {
-    let (own, parts): (u8, [Option<&Path>; 2]) = match path {
-        Path::Own => (code::OWN, [None, None]),
-        Path::Child(_) => (code::CHILD, [None, None]),
-        Path::AnyChild => (code::ANY_CHILD, [None, None]),
-        Path::Then(p, q) => (code::THEN, [Some(p), Some(q)]),
-        Path::Deep(p, q) => (code::DEEP, [Some(p), Some(q)]),
-        Path::Union(p, q) => (code::UNION, [Some(p), Some(q)]),
-        Path::Where(p, q) => {
-            qualifier_codes(q, codes);
-            (code::WHERE, [Some(p), None])
+/// What stands in a query.
+struct Nodes<'a> {
+    codes: Vec<u8>,
+    qualifiers: Vec<&'a Qualifier>,
+}
+
+impl<'a> Nodes<'a> {
+    fn of(query: &'a Query) -> Nodes<'a> {
+        let mut nodes = Nodes {
+            codes: Vec::new(),
+            qualifiers: Vec::new(),
+        };
+        nodes.path(&query.path);
+        nodes
+    }
+
+    fn path(&mut self, path: &'a Path) {
+        let (own, parts): (u8, [Option<&'a Path>; 2]) = match path {
+            Path::Own => (code::OWN, [None, None]),
+            Path::Child(_) => (code::CHILD, [None, None]),
+            Path::AnyChild => (code::ANY_CHILD, [None, None]),
+            Path::Then(p, q) => (code::THEN, [Some(p), Some(q)]),
+            Path::Deep(p, q) => (code::DEEP, [Some(p), Some(q)]),
+            Path::Union(p, q) => (code::UNION, [Some(p), Some(q)]),
+            Path::Where(p, q) => {
+                self.qualifier(q);
+                (code::WHERE, [Some(p), None])
+            }
+        };
+        self.codes.push(own);
+        for part in parts.into_iter().flatten() {
+            self.path(part);
         }
-    };
-    codes.push(own);
-    for part in parts.into_iter().flatten() {
-        path_codes(part, codes);
+    }
+
+    fn qualifier(&mut self, qualifier: &'a Qualifier) {
+        let (own, parts): (u8, [Option<&'a Qualifier>; 2]) = match qualifier {
+            Qualifier::Some(path) => {
+                self.path(path);
+                (code::SOME, [None, None])
+            }
+            Qualifier::Text(_) => (code::TEXT, [None, None]),
+            Qualifier::Not(q) => (code::NOT, [Some(q), None]),
+            Qualifier::And(p, q) => (code::AND, [Some(p), Some(q)]),
+            Qualifier::Or(p, q) => (code::OR, [Some(p), Some(q)]),
+        };
+        self.codes.push(own);
+        self.qualifiers.push(qualifier);
+        for part in parts.into_iter().flatten() {
+            self.qualifier(part);
+        }
     }
 }
 
-fn qualifier_codes(qualifier: &Qualifier, codes: &mut Vec<u8>) {
-    let (own, parts): (u8, [Option<&Qualifier>; 2]) = match qualifier {
-        Qualifier::Some(path) => {
-            path_codes(path, codes);
-            (code::SOME, [None, None])
-        }
-        Qualifier::Text(_) => (code::TEXT, [None, None]),
-        Qualifier::Not(q) => (code::NOT, [Some(q), None]),
-        Qualifier::And(p, q) => (code::AND, [Some(p), Some(q)]),
-        Qualifier::Or(p, q) => (code::OR, [Some(p), Some(q)]),
-    };
-    codes.push(own);
-    for part in parts.into_iter().flatten() {
-        qualifier_codes(part, codes);
-    }
+fn is_text_0(qualifier: &Qualifier) -> bool {
+    matches!(qualifier, Qualifier::Text(NO_TEXT))
+}
+
+fn is_not_text_0(qualifier: &Qualifier) -> bool {
+    matches!(qualifier, Qualifier::Not(q) if is_text_0(q))
 }

@@ -4,6 +4,7 @@ use crate::rng::Rng;
 use evaluator::cursor::opening;
 use evaluator::graph::Graph;
 use evaluator::refusal::File;
+use evaluator::text::NO_TEXT;
 use evaluator::tree::{CLOSE, OPEN};
 
 /// Element i of a document stands at place i-1.
@@ -27,7 +28,8 @@ impl World {
     pub fn make(rng: &mut Rng) -> World {
         let gra = make_gra(rng);
         let graph = Graph::read(&gra).expect("graphs are made sound");
-        let texts = vec![0, 0xFFFF, 7, rng.next() as u16];
+        // Twice the number that is no text's, so that it is often asked for.
+        let texts = vec![NO_TEXT, NO_TEXT, 0xFFFF, 7, rng.next() as u16];
         let elements = match rng.below(5) {
             0 => 127,
             1 => rng.within(1..=8),
