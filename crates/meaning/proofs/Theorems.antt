@@ -1,7 +1,7 @@
 -- The theorems about the definitions: each can be read by itself, with specs/ beside it.
 use Prim.Native.Nat.{ℕ, _+_, _*_, _≤_}
-use mathlib.Core.Path.{_≡_, ap}
-use mathlib.Core.Bool.{true, false, not, and-false}
+use mathlib.Core.Path.{_≡_, refl}
+use mathlib.Core.Bool.{true, false, and-false}
 use mathlib.Core.List.{List, []}
 use mathlib.Core.Logic.{_↔_}
 use borrow.Author.Tests.{le-leb}
@@ -15,13 +15,13 @@ use Rattle.meaning.specs.Limits.{document, kinds}
 use Rattle.meaning.specs.Sets.{bit}
 use Rattle.meaning.specs.Relations.{Relation, OneOrMore, closure, at}
 use Rattle.meaning.specs.Graphs.{LegalGraph, live}
-use Rattle.meaning.specs.Documents.{View, isParent, below, isText, view, node, Accepted}
+use Rattle.meaning.specs.Documents.{View, isParent, below, isText, textTest, view, node, Accepted}
 use Rattle.meaning.specs.Queries.{XPath, textIs, isNot, LegalPath, queryNodes, reaches, holds, selected}
 use Rattle.meaning.specs.Operations.{LegalProgram, last, rows, run, answer}
 use Rattle.meaning.specs.Announcements.{pairs, announced}
 use Rattle.meaning.specs.Translation.{path, translated, stepCount}
 use Rattle.meaning.proofs.Closure.{On, closure-sound, closure-complete}
-use Rattle.meaning.proofs.Views.{accepted-keeps, test-none, below-steps, steps-below}
+use Rattle.meaning.proofs.Views.{accepted-keeps, below-steps, steps-below}
 use Rattle.meaning.proofs.KindSets.{live-small}
 use Rattle.meaning.proofs.NodeKinds.{kinds-live}
 use Rattle.meaning.proofs.Runs.{run-nodes}
@@ -43,17 +43,17 @@ step-count-written g p = translated-length g p
 
 -- The text test with number 0 holds of no node, and under not of every one.
 pub text-0-holds-nowhere : (d : View) (v : ℕ) → holds (textIs 0) d v ≡ false
-unfolding holds
-text-0-holds-nowhere d v = test-none d v
+unfolding holds textTest isText
+text-0-holds-nowhere d v = refl
 
 pub not-text-0-holds-everywhere : (d : View) (v : ℕ) → holds (isNot (textIs 0)) d v ≡ true
-unfolding holds
-not-text-0-holds-everywhere d v = ap not (test-none d v)
+unfolding holds textTest isText
+not-text-0-holds-everywhere d v = refl
 
 -- TEXT 0 has no rows, whatever the document, and announces no pairs, whatever the graph.
 pub text-0-has-no-rows : (d : View) (rs : List Relation) (v w : ℕ) → rows d rs (Text 0) v w ≡ false
-unfolding rows
-text-0-has-no-rows d rs v w = rw (test-none d v) (and-false (eqb v w))
+unfolding rows textTest isText
+text-0-has-no-rows d rs v w = and-false (eqb v w)
 
 pub text-0-announces-no-pairs : (g : Graph) (ps : List Relation) (A B : ℕ) → pairs g ps (Text 0) A B ≡ false
 unfolding pairs isText

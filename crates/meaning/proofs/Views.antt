@@ -53,11 +53,6 @@ pub test-text : (d : View) (c v : ℕ) → textTest d c v ≡ true → isText c 
 unfolding textTest
 test-text d c v h = and-left (isText c) _ h
 
--- 0 is the number of no text
-pub test-none : (d : View) (v : ℕ) → textTest d 0 v ≡ false
-unfolding textTest isText
-test-none d v = refl
-
 above-there : (d : View) (k v w : ℕ) → above k d v w ≡ true → d .there w ≡ true
 unfolding above
 above-there d zero v w h = never h

@@ -15,10 +15,10 @@ use Rattle.meaning.specs.Limits.{types, rowBits, roomBytes}
 use Rattle.meaning.specs.Sets.{any, bit}
 use Rattle.meaning.specs.inside.Diagonal.{diagonal}
 use Rattle.meaning.specs.Relations.{Relation, nothing}
-use Rattle.meaning.specs.Documents.{View, isElement, isParent, isText, textTest, view, node}
+use Rattle.meaning.specs.Documents.{View, isElement, isParent, view, node}
 use Rattle.meaning.specs.Operations.{rows}
 use Rattle.meaning.proofs.Tests.{and-in, and-left}
-use Rattle.meaning.proofs.Views.{element-there, parent-element, test-none}
+use Rattle.meaning.proofs.Views.{element-there, parent-element}
 use Rattle.elements.specs.inside.Packing.{elementIn, keptIn, shown}
 use Rattle.elements.proofs.Packing.{held-long, held-there}
 use Rattle.rows.specs.inside.Rows.{rowsAt, OthersStay, Next}
@@ -60,25 +60,20 @@ not-element kept count = and-false (shown kept count .there 0)
 
 -- A number passes a test.
 module _ (width : ℕ) (kept : List ℕ) (count : ℕ) (xs : List ℕ) (test : Test) where
-  pub pass-none : (v : ℕ) {number : ℕ} → test ≡ Text number → number ≡ 0 → false ≡ passing width (shown kept count) xs test v
-  unfolding passing
-  pass-none v e z = rw (e, z) (sym (test-none (shown kept count) v))
-
   pub pass-root : {number v : ℕ} → test ≡ Text number → v ≡ 0 → false ≡ passing width (shown kept count) xs test v
-  unfolding passing textTest
-  pass-root {number} e z = rw (e, z) (sym (ap (λ (b : Bool). isText number && (b && eqb (shown kept count .text 0) number)) (not-element kept count) ∙ and-false (isText number)))
+  unfolding passing
+  pass-root {number} e z = rw (e, z) (sym (ap (λ (b : Bool). b && eqb (shown kept count .text 0) number) (not-element kept count)))
 
   module _ {end v : ℕ} (t : Testable width end (length kept) count test) (l : v ≤ count) where
     pub pass-always : test ≡ Always → true ≡ passing width (shown kept count) xs test v
     unfolding passing
     pass-always e = rw e (sym (node-there kept count (t .held) v l))
 
-    pub pass-text : {number : ℕ} {e : Element} → test ≡ Text number → (number ≡ 0 → ⊥) → (v ≡ 0 → ⊥) → e ≡ elementIn (getD kept (v - 1) 0)
+    pub pass-text : {number : ℕ} {e : Element} → test ≡ Text number → (v ≡ 0 → ⊥) → e ≡ elementIn (getD kept (v - 1) 0)
         → eqb (e .text) number ≡ passing width (shown kept count) xs test v
-    unfolding passing textTest isText view
-    pass-text {number} h text some is =
-        rw (h, lt-ltb 0 number (omega arith))
-        (sym (ap₂ (λ (b : Bool) (x : Element). b && eqb (x .text) number) (is-element kept count (t .held) v l some is) (element-is kept count (t .held) v l some is)))
+    unfolding passing view
+    pass-text {number} h some is =
+        rw h (sym (ap₂ (λ (b : Bool) (x : Element). b && eqb (x .text) number) (is-element kept count (t .held) v l some is) (element-is kept count (t .held) v l some is)))
 
     pub pass-related : {a first : ℕ} → test ≡ Related a → Next (rowBits width) (rowsAt width xs a v) 0 first → leb first count ≡ passing width (shown kept count) xs test v
     unfolding passing
@@ -90,7 +85,7 @@ module _ (width : ℕ) (kept : List ℕ) (count : ℕ) (xs : List ℕ) (test : T
   pub test-room : {end a : ℕ} → Testable width end (length kept) count test → test ≡ Related a → a + roomBytes width ≤ end
   test-room t e = t .before _ e
 
-pub ruleset test-laws = (pass-always, pass-none, pass-root, pass-text, pass-related, test-room, needs)
+pub ruleset test-laws = (pass-always, pass-root, pass-text, pass-related, test-room, needs)
 
 -- The numbers below v that pass are put in; old is the work area as it was when the room had been cleared.
 pub record Testing (width : ℕ) (old new : List ℕ) (base : ℕ) (kept : List ℕ) (count : ℕ) (test : Test) (v : ℕ) : Type 0 where

@@ -6,6 +6,7 @@ use mathlib.Core.List.{List, []}
 use native.Mathlib.Nat.{zero-add}
 use native.Mathlib.Omega.{arith}
 use borrow.Author.Needs.{needs}
+use borrow.Author.Tests.{lt-ltb}
 use lib.Dec.{eqb, ltb}
 use lib.ListN.{length, List·getD-eq-default}
 use Rattle.meaning.specs.declared.Operation.{Operation}
@@ -13,10 +14,12 @@ use Rattle.meaning.specs.declared.Operation.the-variants.{Table, Itself, Text, 
 use Rattle.meaning.specs.Limits.{roomBytes}
 use Rattle.meaning.specs.inside.Diagonal.{diagonal}
 use Rattle.meaning.specs.Relations.{Relation, nothing, at, join, unite, has, difference, intersection, closure}
+use Rattle.meaning.specs.Documents.{isText, textTest}
 use Rattle.meaning.specs.Operations.{LegalOperation, rows}
 use Rattle.meaning.proofs.Lists.{table-length, table-at}
 use Rattle.meaning.proofs.Tests.{never}
 use Rattle.meaning.proofs.Runs.{OnNodes, rows-nodes}
+use Rattle.meaning.proofs.Theorems.{text-0-has-no-rows}
 use Rattle.rows.specs.declared.Mix.the-variants.{Either, Both as Shared, First}
 use Rattle.rows.specs.inside.Rows.{mixes, rowsAt, mixedRows}
 use Rattle.rows.proofs.Cases.{by-order}
@@ -63,14 +66,14 @@ module _ {width : ℕ} {kept : List ℕ} {count : ℕ} {xs : List ℕ} {s : ℕ}
   operand-is {a} l e = ap (rowsAt width xs) e ∙ sym (room-of width xs s a l)
 
   module _ {base : ℕ} (b : base ≡ roomBytes width * s) where
-    room : base + roomBytes width ≤ length xs
-    room = omega (arith, b, m .room)
+    pub room-inside : base + roomBytes width ≤ length xs
+    room-inside = omega (arith, b, m .room)
 
     -- What each operation asks of its operands' rooms: one that reads two steps, and one that reads one.
     two-places : {a c x y : ℕ} → (a < s) × (c < s) → x ≡ roomBytes width * a → y ≡ roomBytes width * c → Places width (length xs) base x y (count + 1)
     two-places l e f = record {
       sized = m .sized;
-      room = room;
+      room = room-inside;
       left = operand-before (l .0) e b;
       right = operand-before (l .1) f b;
       few = let w = m .sized in omega (arith, m .nodes .few);
@@ -145,9 +148,12 @@ module _ {width : ℕ} {kept : List ℕ} {count : ℕ} {xs : List ℕ} {s : ℕ}
       unfolding rows passing
       itself-made e = of-tests Always (λ v w. rw e)
 
-      pub text-made : (number : ℕ) → o ≡ Text number → RoomMade width xs ys base (columns (count + 1) (diagonal (passing width (shown kept count) xs (Texts number)))) → Right
-      unfolding rows passing
-      text-made number e = of-tests (Texts number) (λ v w. rw e)
+      pub text-none-made : (number : ℕ) → o ≡ Text number → number ≡ 0 → RoomMade width xs ys base nothing → Right
+      text-none-made number e z k = rw (e, z) (made-as width b k λ v w. sym (text-0-has-no-rows (shown kept count) (roomsIn width xs s) v w))
+
+      pub text-made : (number : ℕ) → o ≡ Text number → (number ≡ 0 → ⊥) → RoomMade width xs ys base (columns (count + 1) (diagonal (passing width (shown kept count) xs (Texts number)))) → Right
+      unfolding rows passing textTest isText
+      text-made number e some = of-tests (Texts number) (λ v w. rw (e, lt-ltb 0 number (omega arith)))
 
       pub has-made : (a x : ℕ) → o ≡ Has a → x ≡ roomBytes width * a → RoomMade width xs ys base (columns (count + 1) (diagonal (passing width (shown kept count) xs (Related x)))) → Right
       unfolding rows passing has LegalOperation
@@ -188,11 +194,13 @@ pub ruleset laws = (
   diff-places,
   both-places,
   closure-places,
+  room-inside,
   itself-asks,
   text-asks,
   has-asks,
   table-made,
   itself-made,
+  text-none-made,
   text-made,
   has-made,
   closure-made,

@@ -51,14 +51,14 @@ fn make(work: &mut [u8], kept: &[u32], count: usize, step: Step, width: usize)
     match operation {
         Operation::Table(mask) => room::table(work, base, kept, count, mask, width),
         Operation::Itself => room::diagonal(work, base, kept, count, Test::Always, width),
-        Operation::Text(number) => room::diagonal(
-            work,
-            base,
-            kept,
-            count,
-            Test::Text(number),
-            width,
-        ),
+        // 0 is the number of no text.
+        Operation::Text(number) => {
+            if number == 0 {
+                room::clear(work, base, width)
+            } else {
+                room::diagonal(work, base, kept, count, Test::Text(number), width)
+            }
+        }
         Operation::Join(a, b) => room::join(
             work,
             base,

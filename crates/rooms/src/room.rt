@@ -19,7 +19,7 @@ use numbers::u8_to_usize;
 use rows::Mix;
 
 // No rows.
-fn clear(work: &mut [u8], base: usize, width: usize)
+pub(crate) fn clear(work: &mut [u8], base: usize, width: usize)
     requires { ⌜ base + roomBytes width ≤ length (now work) ⌝ }
     ensures { λ r. ⌜ RoomMade width (now (work .entry)) (now (work .exit)) base nothing ⌝ }
 {
@@ -61,8 +61,7 @@ pub(crate) fn table(
     }
 }
 
-// What is asked of a number: nothing, that its element has a text of this number, which is not 0, or that the room at a place
-// has a row from it.
+// What is asked of a number: nothing, that its element has a text number, or that the room at a place has a row from it.
 pub enum Test {
     Always,
     Text(u16),
@@ -76,9 +75,6 @@ fn passes(work: &[u8], kept: &[u32], count: usize, test: Test, v: usize, width: 
     match test {
         Test::Always => true,
         Test::Text(number) => {
-            if number == 0 {
-                return false;
-            }
             if v == 0 {
                 return false;
             }

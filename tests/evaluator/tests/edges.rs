@@ -1,5 +1,5 @@
 //! What docs/RULES.md says of bounds that are just kept or passed (18.8 to
-//! 18.12), of rooms, of rows and of text number 0.
+//! 18.12), of text number 0 (18.13), of rooms and of rows.
 
 mod common;
 

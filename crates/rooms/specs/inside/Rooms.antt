@@ -9,7 +9,7 @@ use lib.ListN.{length}
 use Rattle.meaning.specs.Limits.{small, rowBits, roomBytes}
 use Rattle.meaning.specs.Sets.{any}
 use Rattle.meaning.specs.Relations.{Relation}
-use Rattle.meaning.specs.Documents.{View, textTest}
+use Rattle.meaning.specs.Documents.{View, isElement}
 use Rattle.rows.specs.declared.Mix.the-variants.{First}
 use Rattle.rows.specs.inside.Rows.{gathered, mixes, rowsAt, OthersStay}
 use Rattle.rooms.specs.declared.room.Test.{Test}
@@ -44,7 +44,7 @@ starting limit n r u = ltb u n && any limit (r u)
 -- a number passes a test, of what a document shows or of the room at a place
 unfoldable pub passing : ℕ → View → List ℕ → Test → ℕ → Bool
 passing width d bytes Always v = d .there v
-passing width d bytes (Text number) v = textTest d number v
+passing width d bytes (Text number) v = isElement d v && eqb (d .text v) number
 passing width d bytes (Related a) v = any (d .size) (rowsAt width bytes a v)
 
 -- Two relations, mixed; or joined, through numbers below limit that are there.

@@ -13,7 +13,6 @@ passes-spec =
     (λ c. search test-laws)
     (λ c. search test-laws)
     (λ c. search test-laws)
-    (λ c. search test-laws)
     (λ c κs. search test-laws)
     (λ c. search test-laws)
     (λ c κs. search test-laws)
