@@ -1,4 +1,6 @@
 // The check: which kinds each step of a program may join, from the graph alone.
+#![tactic(auto)]
+
 ghost use Rattle.std.specs.Prelude.{◌≡◌};
 ghost use Rattle.fields.specs.Read.{refused};
 ghost use Rattle.announce.specs.Check.{checked, check_of};
@@ -11,7 +13,7 @@ const STEPS: usize = 24;
 
 // What the check answers: 0 and the announcement of each step, with no pairs past the last; or a refusal's number and no pairs.
 #[repr(C)]
-#[derive(Drop)]
+#[derive(Clone, Copy)]
 pub struct Checked {
     pub number: u8,
     pub steps: [Announced; STEPS],

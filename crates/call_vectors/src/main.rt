@@ -1,6 +1,8 @@
 // Makes the calls that its arguments name and prints what each answers, and what it leaves in the buffers lent to it. A
 // case is six arguments: its name, which begins with the call's; the graph and two more files; the rooms of `out` and of
 // `work`. A call that takes fewer files or buffers has arguments that it doesn't look at.
+#![tactic(auto)]
+
 ghost use Rattle.std.specs.Prelude.{◌+◌, ◌<◌, ◌≤◌, ◌^◌};
 ghost use Rattle.io.specs.Counts.{IsPrefixLen};
 

@@ -1,4 +1,6 @@
 // The shredder and the rebuilder over files: documents to tables and back.
+#![tactic(auto)]
+
 ghost use Rattle.writing.specs.Lent.{Leaves};
 ghost use Rattle.convert.specs.Convert.{shredded, rebuilt};
 

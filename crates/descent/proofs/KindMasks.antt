@@ -15,7 +15,7 @@ use Rattle.meaning.specs.Graphs.{LegalGraph, child_kind, reachable}
 use Rattle.meaning.specs.Queries.{XPath, self, child, any_child, slash, slashes, union, filter}
 use Rattle.meaning.specs.Translation.{image, only, together, or_reachable, out}
 use Rattle.meaning.proofs.Sets.{bit_mask, mask_below_lem}
-use Rattle.meaning.proofs.Bits.{below_bits, mask_bits, mask_single, mask_or, mask_cong, bit_and}
+use Rattle.meaning.proofs.Bits.{below_bits, mask_bits, mask_single, mask_or, mask_cong, bit_and_lem}
 use Rattle.meaning.proofs.KindSets.{only_out, child_types, reachable_types}
 
 mask_small : (f : ℕ → Bool) → mask kinds f < 2 ^ kinds
@@ -63,4 +63,4 @@ only_and t C l c =
     let single : 1 * 2 ^ t % 2 ^ 32 ≡ mask kinds (λ A. eqb A t) = mod-eq_of_lt (omega arith) ∙ omega (arith, mask_single kinds t (omega arith)) in
     rw single
     (sym (mask_bits kinds _ (and_lt kinds (mask kinds (λ A. eqb A t)) C (mask_small _) c))
-    ∙ mask_cong kinds _ _ (λ A a. bit_and A _ C ∙ ap (λ b. b && bit C A) (bit_mask kinds (λ A. eqb A t) A a)))
+    ∙ mask_cong kinds _ _ (λ A a. bit_and_lem A _ C ∙ ap (λ b. b && bit C A) (bit_mask kinds (λ A. eqb A t) A a)))

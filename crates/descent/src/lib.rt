@@ -1,5 +1,7 @@
 // The descent through the query, left part first: each part is translated under its own context kinds, and the kinds out
 // of a left part are handed to the right one.
+#![tactic(auto)]
+
 mod leaves;
 mod parts;
 mod rows;

@@ -5,7 +5,7 @@ ghost use Rattle.descent.specs.Inside.Rows.{row_of};
 use steps::Operator;
 
 // A code with no part: SELF; TABLE with the type that follows, or with all children; TEXT with the number that follows.
-#[derive(Drop)]
+#[derive(Clone, Copy)]
 pub(crate) enum Leaf {
     Itself,
     Child,
@@ -14,7 +14,7 @@ pub(crate) enum Leaf {
 }
 
 // What is made of the one part of a code: HAS, or SELF and the DIFF of that and the part.
-#[derive(Drop)]
+#[derive(Clone, Copy)]
 pub(crate) enum Ending {
     Has,
     Not,
@@ -22,7 +22,7 @@ pub(crate) enum Ending {
 
 // Where the second of two parts stands: under the kinds out of the first, under those of the whole, or behind the five
 // steps that go on from the first to all below, under the kinds of these.
-#[derive(Drop)]
+#[derive(Clone, Copy)]
 pub(crate) enum Second {
     After,
     Beside,
@@ -30,7 +30,7 @@ pub(crate) enum Second {
 }
 
 // Behind two parts stands an operation on both.
-#[derive(Drop)]
+#[derive(Clone, Copy)]
 pub(crate) enum Row {
     Leaf(Leaf),
     One(Ending),

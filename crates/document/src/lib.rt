@@ -1,5 +1,7 @@
 // The reader of document files: one loop over the tokens. It needs no stack, for the parent of the innermost open
 // element is kept with the element.
+#![tactic(auto)]
+
 ghost use Rattle.std.specs.Prelude.{◌≡◌, ◌<◌, length};
 ghost use Rattle.meaning.specs.Limits.{element_limit};
 ghost use Rattle.fields.specs.Inside.Outcomes.{read_of};
@@ -13,14 +15,14 @@ use meaning::{Element, Graph, Outcome, Reason, SMALL};
 use numbers::{u16_to_u8, usize_to_u8};
 
 // Where reading stands: how many elements are kept so far, and the innermost that is open.
-#[derive(Drop)]
+#[derive(Clone, Copy)]
 struct Standing {
     count: usize,
     inner: u8,
 }
 
 // After a token: where reading stands, and where it goes on or the refusal.
-#[derive(Drop)]
+#[derive(Clone, Copy)]
 struct Turn {
     state: Standing,
     next: Field,

@@ -68,7 +68,7 @@ once_all {rs = rs} good once =
 placed_long : (es : List Element) (rs : List Row) → length (placed es rs) ≡ length es
 unfolding placed
 placed_long es [] = refl
-placed_long es (r ∷ rs) = placed_long _ rs ∙ length-set es (r.number - 1) r.element
+placed_long es (r ∷ rs) = placed_long (set es (r.number - 1) r.element) rs ∙ length-set es (r.number - 1) r.element
 
 pub elements_long : (limit : ℕ) (rs : List Row) → length rs ≤ limit → length (elements_of limit rs) ≡ length rs
 unfolding elements_of
@@ -81,7 +81,7 @@ unfolding placed count
 placed_other es j all_none h = refl
 placed_other es j (all_more {r} {rs} good more) h =
     let positive = good.positive in
-    placed_other _ j more (omega (arith, h))
+    placed_other (set es (r.number - 1) r.element) j more (omega (arith, h))
     ∙ get_or-set_other es (r.number - 1) j r.element document_node (λ e. omega (arith, simp (eq-eqb r.number (suc j) (omega arith)) at h))
 
 -- where no number comes twice, each row's element stands in its number's place
@@ -95,8 +95,8 @@ placed_all es room once (all_more {r} {rs} good more) =
     let i = r.number - 1 in
     let none : times (suc i) rs ≡ 0 = omega (arith, simp (eq-eqb r.number (suc i) (omega arith)) at (once i (omega arith))) in
     all_more
-    (placed_other _ i more none ∙ get_or-set_same es i r.element document_node (omega arith))
-    (placed_all _ (omega (arith, length-set es i r.element)) (λ j l. omega (arith, once j l)) more)
+    (placed_other (set es i r.element) i more none ∙ get_or-set_same es i r.element document_node (omega arith))
+    (placed_all (set es i r.element) (omega (arith, length-set es i r.element)) (λ j l. omega (arith, once j l)) more)
 
 -- where the numbers are 1 to n, each once, each row's element stands in its number's place
 pub elements_at : (limit : ℕ) (rs : List Row) → length rs ≤ limit → All (GoodRow (length rs)) rs → Once (length rs) rs

@@ -1,5 +1,7 @@
 // The element record: elements 1 to count, kept packed in a lent array of numbers, element i at place i-1. A record of
 // elements by value would be copied at each call.
+#![tactic(auto)]
+
 ghost use Rattle.std.specs.Prelude.{◌≡◌, ◌≤◌, ◌<◌, length};
 ghost use Rattle.meaning.specs.Documents.{node};
 ghost use Rattle.fields.specs.Inside.Outcomes.{outcome_of, read_of};
@@ -20,7 +22,7 @@ pub const DOCUMENT_NODE: Element = Element {
 pub const BLANK: u32 = 1048576;
 
 // How reading elements came out, and how many are kept: none where it was refused.
-#[derive(Drop)]
+#[derive(Clone, Copy)]
 pub struct ElementsRead {
     pub outcome: Outcome,
     pub count: usize,

@@ -1,4 +1,6 @@
 // The field readers that all five files share: each answers a value with the next cursor, or the refusal.
+#![tactic(auto)]
+
 ghost use Rattle.std.specs.Prelude.{◌≡◌, ◌-◌, ◌^◌, ltb, length};
 ghost use Rattle.fields.specs.Inside.Outcomes.{outcome_of, read_of, answered, passed};
 ghost use Rattle.fields.specs.Read.{refusal_of, byte, word, byte_below, byte_up_to, mask_below, mark, header, end};
@@ -7,13 +9,13 @@ use meaning::{Outcome, Reason, Refusal};
 use numbers::u8_to_u16;
 
 // Where reading goes on.
-#[derive(Drop)]
+#[derive(Clone, Copy)]
 pub struct Cursor {
     pub at: usize,
 }
 
 // What a field reader answers. Where a field only has to be passed, the value is 0.
-#[derive(Drop)]
+#[derive(Clone, Copy)]
 pub enum Field {
     Got(u16, Cursor),
     Refused(Refusal),

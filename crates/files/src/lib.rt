@@ -1,5 +1,7 @@
 // The files of a call, read in order: the graph first, then the others under it. The first refusal met is handed on, and
 // nobody looks at what stands beside it.
+#![tactic(auto)]
+
 ghost use Rattle.std.specs.Prelude.{◌≡◌, length};
 ghost use Rattle.meaning.specs.Limits.{element_limit};
 ghost use Rattle.elements.specs.Inside.Packing.{blank_places};
@@ -9,7 +11,7 @@ ghost use Rattle.files.specs.Files.{document_under, tables_under, query_under, p
 use meaning::{Graph, Outcome, Program};
 
 // A graph, and how many elements are kept that were read under it.
-#[derive(Drop)]
+#[derive(Clone, Copy)]
 pub struct Opened {
     pub outcome: Outcome,
     pub graph: Graph,
@@ -17,7 +19,7 @@ pub struct Opened {
 }
 
 // A graph, and how many nodes the query has that was read under it.
-#[derive(Drop)]
+#[derive(Clone, Copy)]
 pub struct Asked {
     pub outcome: Outcome,
     pub graph: Graph,
@@ -25,7 +27,7 @@ pub struct Asked {
 }
 
 // A graph, and the program that was read under it.
-#[derive(Drop)]
+#[derive(Clone, Copy)]
 pub struct Checkable {
     pub outcome: Outcome,
     pub graph: Graph,
@@ -33,7 +35,7 @@ pub struct Checkable {
 }
 
 // How many elements are kept, and the program to run over them.
-#[derive(Drop)]
+#[derive(Clone, Copy)]
 pub struct Runnable {
     pub outcome: Outcome,
     pub count: usize,

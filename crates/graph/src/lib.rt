@@ -1,4 +1,6 @@
 // The reader of the graph's file.
+#![tactic(auto)]
+
 ghost use Rattle.std.specs.Prelude.{◌≡◌, ◌≤◌};
 ghost use Rattle.meaning.specs.Limits.{types};
 ghost use Rattle.fields.specs.Read.{ended};
@@ -14,14 +16,14 @@ use numbers::u16_to_u8;
 const TYPES: u8 = 16;
 
 // How reading the file came out; a graph of zeros stands beside a refusal.
-#[derive(Drop)]
+#[derive(Clone, Copy)]
 pub struct GraphRead {
     pub outcome: Outcome,
     pub graph: Graph,
 }
 
 // The masks beside what the last field answered.
-#[derive(Drop)]
+#[derive(Clone, Copy)]
 struct MasksRead {
     passed: Field,
     masks: [u16; TYPES as usize],

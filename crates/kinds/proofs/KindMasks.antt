@@ -24,7 +24,7 @@ use Rattle.meaning.proofs.Sets.{any_in, any_out, any_cong, bit_mask, bit_none, m
 use Rattle.meaning.proofs.Closure.{closure_sound}
 use Rattle.meaning.proofs.KindSets.{image_in, image_out}
 use Rattle.kinds.proofs.Edges.{edge_of_document, edge_of_type, no_such_type}
-use Rattle.meaning.proofs.Bits.{bit_or, below_bits, mask_cong, mask_none, mask_bits, mask_single, mask_or}
+use Rattle.meaning.proofs.Bits.{bit_or_lem, below_bits, mask_cong, mask_none, mask_bits, mask_single, mask_or}
 
 pub single_none : (kind : ℕ) → kinds ≤ kind → 0 ≡ mask kinds (λ A. eqb A kind)
 single_none kind l = sym (mask_cong kinds _ (λ A. false) (λ A a. ne_eqb A kind (λ e. omega arith)) ∙ mask_none kinds)
@@ -82,7 +82,7 @@ module _ (rows : ℕ → ℕ) (set : ℕ) where
   unfolding imageUpto any
   image_more {n} found row next u l q e = record {
     most = omega arith;
-    is = fun_ext λ B. bit_or B next found ∙ simp (e, q, ap (λ f. f B) u.is, add-one, chosen_bits (bit set n) (rows n) B);
+    is = fun_ext λ B. bit_or_lem B next found ∙ simp (e, q, ap (λ f. f B) u.is, add-one, chosen_bits (bit set n) (rows n) B);
   }
 
 pub image_all : (r : Relation) (c found : ℕ) {n : ℕ} → Upto (imageUpto (λ A. mask kinds (r A)) c) n (bit found) → kinds ≤ n → found ≡ image r c
@@ -122,12 +122,12 @@ module _ (r : Relation) (c : ℕ) where
         (λ q. both_in kinds (bit c) more-rounds A a q (or_left (r A B) _ e))
         (image_out (within k kinds r) c A (λ v l q w.
         both_in kinds (bit c) more-rounds v l q (or_right (r v B) _ (both_in kinds (λ u. r u B) (within k kinds r v) A a e w))))
-        (sym (bit_or A c (rounds k)) ∙ p)))
+        (sym (bit_or_lem A c (rounds k)) ∙ p)))
         (both_out kinds (bit c) more-rounds (λ A a p. or_out (r A B) _ (last A a (or_left (bit c A) _ p))
         (both_out kinds (λ u. r u B) (within k kinds r A) (λ u l e w. last u l (or_right (bit c u) _ (image_in (within k kinds r) c A u a l p w)) e))))
       where
         last : (u : ℕ) → u < kinds → bit c u || bit (rounds k) u ≡ true → r u B ≡ true → any kinds (λ A. bit reached A && r A B) ≡ true
-        last u l h = both_in kinds (bit reached) (λ A. r A B) u l (bit_or u c (rounds k) ∙ h)
+        last u l h = both_in kinds (bit reached) (λ A. r A B) u l (bit_or_lem u c (rounds k) ∙ h)
 
   pub rounds_more : {k reached next : ℕ} → Upto rounds k reached → k < kinds → next ≡ image r (bit_or c reached) → Upto rounds (k + 1) next
   unfolding rounds image within

@@ -1,4 +1,6 @@
 // Kinds: the edges between them, and sets of them as masks.
+#![tactic(auto)]
+
 ghost use Rattle.std.specs.Prelude.{◌≡◌, ◌<◌, cond, eqb};
 ghost use Rattle.meaning.specs.Limits.{kinds};
 ghost use Rattle.meaning.specs.Sets.{bit, mask};

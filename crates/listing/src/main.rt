@@ -1,4 +1,6 @@
 // Lists the nodes that query.qry selects from tables.edg under graph.gra, all in the folder that it runs in.
+#![tactic(auto)]
+
 ghost use Rattle.std.specs.Prelude.{◌≡◌, ◌+◌, ◌*◌, ◌≤◌, length};
 ghost use Rattle.meaning.specs.Limits.{small, element_limit, step_limit, room_bytes};
 

@@ -1,4 +1,6 @@
 // Files, as the programs take them.
+#![tactic(auto)]
+
 ghost use Rattle.io.specs.Counts.{IsPrefixLen};
 
 // What the file holds from its start on, up to the buffer's length. One that is missing or can't be read counts as empty.

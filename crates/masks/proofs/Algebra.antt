@@ -18,7 +18,7 @@ use Rattle.meaning.specs.Inside.Diagonal.{diagonal}
 use Rattle.meaning.specs.Relations.{Relation, nothing, unite, intersection, join, has, within, closure}
 use Rattle.meaning.proofs.Tests.{never, and_left, and_right, and_where, and_implied, or_out}
 use Rattle.meaning.proofs.Sets.{any_out, any_cong, bit_mask, bit_none}
-use Rattle.meaning.proofs.Bits.{bit_or, bit_and, bit_single}
+use Rattle.meaning.proofs.Bits.{bit_or_lem, bit_and_lem, bit_single}
 use Rattle.meaning.proofs.Lists.{table_at}
 use Rattle.kinds.proofs.KindMasks.{Upto, upto_all, imageUpto, image_none, image_more}
 use Rattle.masks.specs.declared.Announced.{Announced}
@@ -57,11 +57,11 @@ own_made a s l small h =
 module _ {how : Mix} (r s : Relation) (i x y : ℕ) (p : bit x ≡ r i) where
   pub either_row : bit y ≡ s i → how ≡ Either → bit (bit_or x y) ≡ mixture how r s i
   unfolding unite
-  either_row q e = rw e (fun_ext λ B. bit_or B x y ∙ rw (p, q))
+  either_row q e = rw e (fun_ext λ B. bit_or_lem B x y ∙ rw (p, q))
 
   pub both_row : bit y ≡ s i → how ≡ Both → bit (bit_and x y) ≡ mixture how r s i
   unfolding intersection
-  both_row q e = rw e (fun_ext λ B. bit_and B x y ∙ rw (p, q))
+  both_row q e = rw e (fun_ext λ B. bit_and_lem B x y ∙ rw (p, q))
 
   pub joined_row : bit y ≡ image_of s (bit x) → how ≡ Joined → bit y ≡ mixture how r s i
   unfolding join image_of

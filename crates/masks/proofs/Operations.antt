@@ -20,7 +20,7 @@ use Rattle.meaning.specs.Announcements.{pairs}
 use Rattle.meaning.proofs.Tests.{same, and_left, and_where, not_in}
 use Rattle.meaning.proofs.Sets.{bit_mask, mask_below_lem}
 use Rattle.meaning.proofs.KindSets.{live_small, edges_on}
-use Rattle.meaning.proofs.Bits.{bit_and, bits_of_mask}
+use Rattle.meaning.proofs.Bits.{bit_and_lem, bits_of_mask}
 use Rattle.meaning.proofs.Theorems.{text_0_announces_no_pairs}
 use Rattle.kinds.proofs.KindMasks.{chosen_bits}
 use Rattle.masks.specs.declared.Announced.{Announced}
@@ -49,14 +49,14 @@ module _ (g : Graph) (legal : LegalGraph g) where
   live_kinds l e A h = live_small g legal A (rw (live_bits l e) at h)
 
   pub some_kinds : (l m : ℕ) → l ≡ mask kinds (live g) → (A : ℕ) → bit (bit_and l m) A ≡ true → A < kinds
-  some_kinds l m e A h = live_kinds l e A (and_left (bit l A) (bit m A) (sym (bit_and A l m) ∙ h))
+  some_kinds l m e A h = live_kinds l e A (and_left (bit l A) (bit m A) (sym (bit_and_lem A l m) ∙ h))
 
   -- the children of a kind, if it is live, that are in the mask
   pub table_row : (i m l kids r : ℕ) → l ≡ mask kinds (live g) → kids ≡ mask kinds (child_kind g i) → r ≡ cond (bit l i) (bit_and kids m) 0
       → bit r ≡ pairs g [] (Table m) i
   unfolding pairs
   table_row i m l kids r e q h =
-      fun_ext λ B. rw (h, chosen_bits (bit l i), live_bits l e, bit_and B kids m, q, bits_of_mask kinds (child_kind g i) (λ B h. (edges_on g legal i B h).1))
+      fun_ext λ B. rw (h, chosen_bits (bit l i), live_bits l e, bit_and_lem B kids m, q, bits_of_mask kinds (child_kind g i) (λ B h. (edges_on g legal i B h).1))
 
   pub table_from : (m : ℕ) → FromKinds (pairs g [] (Table m))
   unfolding pairs
@@ -78,7 +78,7 @@ module _ (g : Graph) (legal : LegalGraph g) where
     pub text_shown : (l : ℕ) {c : ℕ} → o ≡ Text c → (c ≡ 0 → ⊥) → l ≡ mask kinds (live g) → rel_of r ≡ diagonal (bit (bit_and l 0xFFFF)) → rel_of r ≡ pairs g ps o
     unfolding pairs diagonal is_text
     text_shown l {c} e some q h =
-        h ∙ rw e (fun_ext λ A. fun_ext λ B. ap (λ t. eqb A B && t) (bit_and A l 0xFFFF
+        h ∙ rw e (fun_ext λ A. fun_ext λ B. ap (λ t. eqb A B && t) (bit_and_lem A l 0xFFFF
         ∙ rw (live_bits l q, lt-ltb 0 c (omega arith)) (and_where (live g A) (λ k. no_document A (live_small g legal A k)))))
 
     pub diff_shown : {a b : ℕ} → o ≡ Diff a b → rel_of r ≡ at ps (operands_of o).0 → rel_of r ≡ pairs g ps o

@@ -1,4 +1,6 @@
 // Announcements as values: what an operation may join, from what its operands may, and that for each step of a program.
+#![tactic(auto)]
+
 ghost use Rattle.std.specs.Prelude.{◌≡◌, true, List, [], ℕ, ◌<◌};
 ghost use Rattle.meaning.specs.declared.Operation.TheVariants.{Table};
 ghost use Rattle.meaning.specs.Limits.{kinds};
@@ -24,7 +26,7 @@ const TYPES: u32 = 0xFFFF;
 
 // What a step may join: bit B of mask A is set for the pair of kinds (A, B).
 #[repr(C)]
-#[derive(Drop)]
+#[derive(Clone, Copy)]
 pub struct Announced {
     pub pairs: [u32; KINDS],
 }
@@ -37,7 +39,7 @@ const ITSELF: Announced = Announced {
 };
 
 // How two announcements are mixed: the pairs of either, those of both, or a pair of the first and one of the second as one.
-#[derive(Drop)]
+#[derive(Clone, Copy)]
 enum Mix {
     Either,
     Both,
@@ -45,7 +47,7 @@ enum Mix {
 }
 
 // The steps that an operation reads; 0 stands for one that it does not read.
-#[derive(Drop)]
+#[derive(Clone, Copy)]
 struct Operands(u8, u8);
 
 pub fn nothing() -> Announced

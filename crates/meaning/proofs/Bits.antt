@@ -117,11 +117,11 @@ module _ (op f : ℕ → ℕ → ℕ) (t : Bool → Bool → Bool)
       let half : op a b / 2 ≡ op (a / 2) (b / 2) = omega (arith, step a b) in
       ap (λ (m : ℕ). bit m k) half ∙ bitwise k (a / 2) (b / 2)
 
-pub bit_or : (k a b : ℕ) → bit (bit_or a b) k ≡ bit a k || bit b k
-bit_or = bitwise bit_or max ◌||◌ or_step (λ x y p q. omega arith) (by_digits _ refl refl refl refl)
+pub bit_or_lem : (k a b : ℕ) → bit (bit_or a b) k ≡ bit a k || bit b k
+bit_or_lem = bitwise bit_or max ◌||◌ or_step (λ x y p q. omega arith) (by_digits _ refl refl refl refl)
 
-pub bit_and : (k a b : ℕ) → bit (bit_and a b) k ≡ bit a k && bit b k
-bit_and = bitwise bit_and min ◌&&◌ and_step (λ x y p q. omega arith) (by_digits _ refl refl refl refl)
+pub bit_and_lem : (k a b : ℕ) → bit (bit_and a b) k ≡ bit a k && bit b k
+bit_and_lem = bitwise bit_and min ◌&&◌ and_step (λ x y p q. omega arith) (by_digits _ refl refl refl refl)
 
 bit_power : (k i : ℕ) → bit (1 * 2 ^ k) i ≡ eqb k i
 unfolding bit

@@ -1,9 +1,11 @@
 // The plain types that every room shares.
+#![tactic(auto)]
+
 ghost use Rattle.std.specs.Prelude.{◌≡◌};
 ghost use Rattle.meaning.specs.Refused.{number_of};
 
 // A graph of k types: bit t of children[s] is set when type t may be a child of type s. The masks from k on are 0.
-#[derive(Drop)]
+#[derive(Clone, Copy)]
 pub struct Graph {
     pub k: u8,
     pub root: u8,
@@ -11,7 +13,7 @@ pub struct Graph {
 }
 
 // An element: its parent's number (0 is the document node), its type and its text number.
-#[derive(Drop)]
+#[derive(Clone, Copy)]
 pub struct Element {
     pub parent: u8,
     pub kind: u8,
@@ -20,7 +22,7 @@ pub struct Element {
 
 // What depends on how many elements a document may have: that number, the bytes of a row of bits, one for each node, and the
 // bytes of a node's number.
-#[derive(Drop)]
+#[derive(Clone, Copy)]
 pub struct Sizes {
     pub elements: usize,
     pub row: usize,
@@ -35,7 +37,7 @@ pub const SMALL: Sizes = Sizes {
 };
 
 // The nine operations, each with what it needs: a mask of types, a text number, or the steps that it reads.
-#[derive(Drop)]
+#[derive(Clone, Copy)]
 pub enum Operation {
     Table(u16),
     Itself,
@@ -49,21 +51,21 @@ pub enum Operation {
 }
 
 // A step: its operation beside its number.
-#[derive(Drop)]
+#[derive(Clone, Copy)]
 pub struct Step {
     pub number: u8,
     pub operation: Operation,
 }
 
 // A program of count steps, step s at place s.
-#[derive(Drop)]
+#[derive(Clone, Copy)]
 pub struct Program {
     pub count: usize,
     pub steps: [Step; 24],
 }
 
 // Why input is turned away.
-#[derive(Drop)]
+#[derive(Clone, Copy)]
 pub enum Reason {
     Ended,
     Mark,
@@ -80,13 +82,13 @@ pub enum Reason {
 }
 
 // What a refusal holds.
-#[derive(Drop)]
+#[derive(Clone, Copy)]
 pub struct Refusal {
     pub reason: Reason,
 }
 
 // How a reading came out; what was read stands beside it.
-#[derive(Drop)]
+#[derive(Clone, Copy)]
 pub enum Outcome {
     Accepted,
     Refused(Refusal),
@@ -94,7 +96,7 @@ pub enum Outcome {
 
 // What a call answers: 0 and a count, or the number of a reason and 0.
 #[repr(C)]
-#[derive(Drop)]
+#[derive(Clone, Copy)]
 pub struct Answer {
     pub number: u8,
     pub count: u32,

@@ -1,5 +1,7 @@
 // Casts between the types of numbers, each named by its two types, and the two bytes of a word. They are functions, so that
 // whoever calls one has nothing to prove of a value that fits.
+#![tactic(auto)]
+
 ghost use Rattle.std.specs.Prelude.{◌≡◌, ◌+◌, ◌*◌, ◌/◌, ◌%◌, ◌<◌};
 
 pub fn u8_to_u16(n: u8) -> u16

@@ -1,4 +1,6 @@
 // The program file's reader. A step's fields are read as the table of layouts says.
+#![tactic(auto)]
+
 ghost use Rattle.std.specs.Prelude.{◌≡◌, ◌≤◌};
 ghost use Rattle.fields.specs.Inside.Outcomes.{read_of, beside};
 ghost use Rattle.fields.specs.Read.{ended};
@@ -11,14 +13,14 @@ use numbers::low;
 use rel::Layout;
 
 // How reading the file came out; a program with no steps stands beside a refusal.
-#[derive(Drop)]
+#[derive(Clone, Copy)]
 pub struct ProgramRead {
     pub outcome: Outcome,
     pub program: Program,
 }
 
 // A step's operation as it was read, and where reading goes on; SELF stands beside a refusal.
-#[derive(Drop)]
+#[derive(Clone, Copy)]
 struct StepRead {
     passed: Field,
     operation: Operation,

@@ -121,8 +121,8 @@ accepts_here p = record { accepts = λ {at = at} bs le h. (p at).accepts bs le h
 node_right : {k : ℕ} {σ : Sort} (m : ℕ → ℕ → PartReader σ) → ((place c : ℕ) → Right k σ (byte_of c) (m place c))
     → Right k σ [] (λ n. here >>= λ place. node_code n >>= λ c. m place c (n - 1))
 unfolding node_code
-node_right m R = record {
-  counts = λ n s at. elim n [ zero ↦ ended | suc n ↦ after_field (node_code (suc n) s at) _ λ c i. rw (one_taken n) ((R at c).counts (suc n - 1) s i) ];
+node_right {σ = σ} m R = record {
+  counts = λ n s at. elim n as (λ n. Counted σ (n + length {A = ℕ} []) ((here >>= λ place. node_code n >>= λ c. m place c (n - 1)) s at)) [ zero ↦ ended | suc n ↦ after_field (node_code (suc n) s at) _ λ c i. rw (one_taken n) ((R at c).counts (suc n - 1) s i) ];
   accepts = λ n. accepts_here λ place. takes_bind (takes_code n) λ c _. (R place c).accepts (n - 1);
 }
   where

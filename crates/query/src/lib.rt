@@ -1,5 +1,7 @@
 // The QRY reader. Paths and qualifiers may hold each other, so their readers call each other. A query is not kept:
 // each reader answers how many nodes it leaves of those still allowed, and where reading goes on.
+#![tactic(auto)]
+
 ghost use Rattle.std.specs.Prelude.{◌≡◌};
 ghost use Rattle.fields.specs.Inside.Outcomes.{read_of};
 ghost use Rattle.query.specs.Qry.{path, qualifier, node_code, query_file};
@@ -13,7 +15,7 @@ use numbers::u16_to_u8;
 const LIMIT: u16 = 24;
 
 // A query as its reader hands it on: how it came out, and how many nodes it has, 0 where it was refused.
-#[derive(Drop)]
+#[derive(Clone, Copy)]
 pub struct QueryRead {
     pub outcome: Outcome,
     pub nodes: u8,

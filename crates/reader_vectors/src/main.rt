@@ -1,5 +1,7 @@
 // Reads the files that its arguments name, in pairs of a graph and a file, and prints for each file its name and
 // what the reader of its kind answers.
+#![tactic(auto)]
+
 use libc::STDOUT_FILENO;
 use loading::load;
 use meaning::Answer;

@@ -1,4 +1,6 @@
 // The rebuilder: writes the document file of elements that are kept.
+#![tactic(auto)]
+
 ghost use Rattle.std.specs.Prelude.{◌+◌, ◌≤◌, length};
 ghost use Rattle.elements.specs.Inside.Packing.{kept_in};
 ghost use Rattle.tre.specs.Tre.{open_of, document_bytes};

@@ -1,4 +1,6 @@
 // The program file: the one table of layouts, which its reader and its writer go by, and the writer of a step.
+#![tactic(auto)]
+
 ghost use Rattle.std.specs.Prelude.{◌≡◌, [], ◌∷◌, ◌≤◌, length};
 ghost use Rattle.rel.specs.Rel.{layouts, layout_of, coded, step_bytes};
 
@@ -7,7 +9,7 @@ use numbers::{high, low};
 
 // How an operation uses x and y: not at all (0, 0), x as an operand (a, 0), both as operands (a, b), both together as a
 // number of 16 bits, both together as a mask of types.
-#[derive(Drop)]
+#[derive(Clone, Copy)]
 pub enum Layout {
     Zeros,
     Single,
@@ -33,7 +35,7 @@ pub const LAYOUTS: [Layout; LAST_CODE as usize] = [
 ];
 
 // The three bytes of a step.
-#[derive(Drop)]
+#[derive(Clone, Copy)]
 pub struct StepBytes(pub u8, pub u8, pub u8);
 
 pub fn layout_of(code: u16) -> Layout

@@ -1,4 +1,6 @@
 // Rooms: the steps of a program, each made in its room of a lent work area, and the nodes that the last one selects.
+#![tactic(auto)]
+
 ghost use Rattle.std.specs.Prelude.{◌≡◌, ◌*◌, ◌≤◌, ◌<◌, length};
 ghost use Rattle.meaning.specs.Limits.{room_bytes};
 ghost use Rattle.meaning.specs.Operations.{rows};

@@ -60,7 +60,7 @@ pub(crate) fn table(
 }
 
 // What is asked of a number: nothing, that its element has a text number, or that the room at a place has a row from it.
-#[derive(Drop)]
+#[derive(Clone, Copy)]
 pub enum Test {
     Always,
     Text(u16),
@@ -122,7 +122,7 @@ fn starts(work: &[u8], a: usize, size: usize, width: usize) -> [u64; 2]
 }
 
 // How a row is made of the rooms at a and b: the two rows of its number, mixed; or the rows of b that a's row names.
-#[derive(Drop)]
+#[derive(Clone, Copy)]
 pub enum Way {
     Mixed(Mix),
     Joined,

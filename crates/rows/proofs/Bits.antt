@@ -20,7 +20,7 @@ use lib.Bits.{bit_and, bit_or, and_lt, or_lt, and_le_r}
 use lib.Count.{count_trailing_zeros, under}
 use Rattle.meaning.specs.Sets.{bit, mask}
 use Rattle.meaning.proofs.Sets.{bit_none}
-use Rattle.meaning.proofs.Bits.{bit_or, bit_and}
+use Rattle.meaning.proofs.Bits.{bit_or_lem, bit_and_lem}
 use Rattle.rows.specs.declared.Mix.{Mix}
 use Rattle.rows.specs.declared.Mix.TheVariants.{Either, Both, First}
 use Rattle.rows.specs.Inside.Rows.{bit_in, in_row, mixes, mixed_word, Lowest}
@@ -60,17 +60,17 @@ is_mask (suc n) m f l h =
 module _ {how : Mix} {x y : ℕ} where
   pub mixed_either : Fits w64 x → Fits w64 y → how ≡ Either → bit_or x y ≡ mixed_word how x y
   unfolding mixes mixed_word
-  mixed_either f g e = is_mask 64 (bit_or x y) _ (or_lt 64 x y f.fits g.fits) (λ i l. rw e (bit_or i x y))
+  mixed_either f g e = is_mask 64 (bit_or x y) _ (or_lt 64 x y f.fits g.fits) (λ i l. rw e (bit_or_lem i x y))
 
   pub mixed_both : Fits w64 x → Fits w64 y → how ≡ Both → bit_and x y ≡ mixed_word how x y
   unfolding mixes mixed_word
-  mixed_both f g e = is_mask 64 (bit_and x y) _ (and_lt 64 x y f.fits g.fits) (λ i l. rw e (bit_and i x y))
+  mixed_both f g e = is_mask 64 (bit_and x y) _ (and_lt 64 x y f.fits g.fits) (λ i l. rw e (bit_and_lem i x y))
 
   pub mixed_first : Fits w64 x → Fits w64 y → how ≡ First → bit_and x (18446744073709551615 - y) ≡ mixed_word how x y
   unfolding mixes mixed_word
   mixed_first f g e =
       is_mask 64 (bit_and x (18446744073709551615 - y)) _ (and_lt 64 x (18446744073709551615 - y) f.fits (omega arith))
-      (λ i l. rw e (bit_and i x (18446744073709551615 - y) ∙ ap (λ b. bit x i && b) (bit_not 64 i y g.fits l)))
+      (λ i l. rw e (bit_and_lem i x (18446744073709551615 - y) ∙ ap (λ b. bit x i && b) (bit_not 64 i y g.fits l)))
 
 -- the lowest bit that is set, by the lowest digit: it is that, or it is the lowest of the half
 lowest_by : (k m t d : ℕ) → m % 2 ≡ d → d < 2 → (d ≡ 0 → Lowest k (m / 2) t) → Lowest (suc k) m (under d t)
@@ -126,7 +126,7 @@ rest_bit (suc t) (suc i) m h z =
     rw (half, eqb-suc-suc i t) (rest_bit t i (m / 2) h (λ j l. z (suc j) (omega arith)))
 
 pub bit_rest : {n m t : ℕ} → Lowest n m t → (i : ℕ) → bit (bit_and m (m - 1)) i ≡ bit m i && not (eqb i t)
-bit_rest {m = m} {t} low i = bit_and i m (m - 1) ∙ rest_bit t i m low.isset low.zeros
+bit_rest {m = m} {t} low i = bit_and_lem i m (m - 1) ∙ rest_bit t i m low.isset low.zeros
 
 pub rest_less : (m : ℕ) → (m ≡ 0 → ⊥) → bit_and m (m - 1) < m
 rest_less m some = omega (arith, and_le_r m (m - 1))

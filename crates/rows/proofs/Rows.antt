@@ -21,7 +21,7 @@ use Rattle.meaning.specs.Sets.{bit}
 use Rattle.meaning.proofs.Sets.{bit_none}
 use Rattle.rows.specs.Inside.Rows.{bit_in, in_row, in_bytes, Bits, including, stretch, rows_at, Placed, Lowest, RowMade, Next}
 use Rattle.rows.proofs.Cases.{by_order, by_equal}
-use Rattle.meaning.proofs.Bits.{bits_below, bit_or}
+use Rattle.meaning.proofs.Bits.{bits_below, bit_or_lem}
 use Rattle.rows.proofs.Bits.{bit_shifted, shifted_one, bit_power, bit_power_other, words_fit}
 use Rattle.rows.proofs.Bytes.{kept_all, kept_set, stretch_length, stretch_at, stretch_past, stretch_set}
 
@@ -78,7 +78,7 @@ module _ (size : ℕ) (some : 0 < size) (parts : List ℕ) (w : ℕ) {part : ℕ
   unfolding bit_in
   bit_more l x =
       by_equal (x / size) (w / size)
-      (λ q. rw (q, get_or-set_same, bit_or, is, only_bit x q))
+      (λ q. rw (q, get_or-set_same, bit_or_lem, is, only_bit x q))
       (λ n. rw (get_or-set_other, ne_eqb w x (λ h. n (sym (ap (λ (y : ℕ). y / size) h)))) (sym (or-false _)))
 
   -- and so where it is to be there

@@ -14,7 +14,7 @@ use Rattle.meaning.specs.Limits.{small}
 use Rattle.meaning.specs.Sets.{bit, mask}
 use Rattle.meaning.proofs.Tests.{fails}
 use Rattle.meaning.proofs.Sets.{bit_none, bit_mask}
-use Rattle.meaning.proofs.Bits.{mask_cong, bits_below, bit_and}
+use Rattle.meaning.proofs.Bits.{mask_cong, bits_below, bit_and_lem}
 use Rattle.rows.specs.Inside.Rows.{bit_in, in_row, in_bytes, stretch, Bits, BytesMade, RowMade}
 use Rattle.rows.proofs.Cases.{by_order}
 use Rattle.rows.proofs.Bits.{bit_shifted, bit_not, digit, is_mask}
@@ -25,7 +25,7 @@ use Rattle.rows.proofs.Rows.{row_bit, row_past, row_end}
 bit_low : (n m i : ℕ) → i < n → bit (m % 2 ^ n) i ≡ bit m i
 bit_low n m i l =
     let ones : 2 ^ n - 1 ≡ 2 ^ n - 1 - 0 = omega arith in
-    rw (← (and_mask m n), bit_and, ones, bit_not n i 0 (pow_pos n) l, bit_none) (and-true _)
+    rw (← (and_mask m n), bit_and_lem, ones, bit_not n i 0 (pow_pos n) l, bit_none) (and-true _)
 
 -- n bits of a number from bit j on
 pub part_of : (n j m : ℕ) → m / 2 ^ j % 2 ^ n ≡ mask n (λ i. bit m (j + i))

@@ -1,5 +1,7 @@
 // Rows of bits. In the work area a row is so many bytes, and bit w of it is bit w mod 8, lowest first, of its byte w div 8;
 // in hand it is two words, so that a whole row is mixed, searched and counted in a few steps.
+#![tactic(auto)]
+
 ghost use Rattle.std.specs.Prelude.{◌≡◌, ◌+◌, ◌*◌, ◌^◌, ◌/◌, ◌≤◌, ◌<◌, length};
 ghost use Rattle.meaning.specs.Limits.{small, row_bits, room_bytes};
 ghost use Rattle.meaning.specs.Sets.{bit, mask, listed};
@@ -128,7 +130,7 @@ pub fn next(row: [u64; 2], from: usize) -> usize
 }
 
 // How two rows are mixed: what is in either, in both, or in the first alone.
-#[derive(Drop)]
+#[derive(Clone, Copy)]
 pub enum Mix {
     Either,
     Both,

@@ -1,4 +1,6 @@
 // The runner: it takes any program's file, and runs it over the elements of a tables file.
+#![tactic(auto)]
+
 ghost use Rattle.rooms.specs.Run.{Gives};
 ghost use Rattle.runner.specs.Run.{run_of};
 

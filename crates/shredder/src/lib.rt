@@ -1,4 +1,6 @@
 // The shredder: writes the tables file of elements that are kept.
+#![tactic(auto)]
+
 ghost use Rattle.std.specs.Prelude.{◌+◌, ◌≤◌, [], ◌∷◌, length};
 ghost use Rattle.elements.specs.Inside.Packing.{kept_in};
 ghost use Rattle.edg.specs.Edg.{rows_of, row_bytes, rows_bytes, table_bytes, tables_of, tables_bytes};

@@ -1,4 +1,6 @@
 // The steps of a program, written one behind the other into its file: step n stands at byte 6 + 3n.
+#![tactic(auto)]
+
 ghost use Rattle.std.specs.Prelude.{◌≡◌, ◌-◌, ◌≤◌, length};
 ghost use Rattle.std.specs.Int.Bits.{bit_or};
 ghost use Rattle.meaning.specs.declared.Operation.TheVariants.{Table, Itself, Join, Closure};
@@ -9,7 +11,7 @@ use meaning::Operation;
 
 // Where the descent is: the kinds there, the query's next byte, and how many steps the program has so far. It goes by value
 // through the recursion, on a stack that may be small, and is kept to eight bytes: an accepted query has at most 77.
-#[derive(Drop)]
+#[derive(Clone, Copy)]
 pub struct Place {
     pub kinds: u32,
     pub at: u8,
@@ -17,7 +19,7 @@ pub struct Place {
 }
 
 // An operation that is still without its operands, two steps. HAS and LFP are of the second; DIFF takes the first out of it.
-#[derive(Drop)]
+#[derive(Clone, Copy)]
 pub enum Operator {
     Join,
     Union,

@@ -1,4 +1,6 @@
 // The reader of tables files.
+#![tactic(auto)]
+
 ghost use Rattle.std.specs.Prelude.{◌≡◌, ◌&&◌, ◌||◌, [], ◌+◌, ◌*◌, ◌-◌, ◌≤◌, ◌<◌, min, eqb, ltb, length, get_or};
 ghost use Rattle.meaning.specs.Limits.{element_limit};
 ghost use Rattle.meaning.specs.Documents.{view, below, parent_rule, edge_rule};
@@ -21,14 +23,14 @@ const NO_ROW: Row = Row {
 };
 
 // A row, beside where reading goes on or the refusal.
-#[derive(Drop)]
+#[derive(Clone, Copy)]
 struct RowRead {
     next: Field,
     row: Row,
 }
 
 // How many rows there were, beside where reading goes on or the refusal.
-#[derive(Drop)]
+#[derive(Clone, Copy)]
 struct TotalRead {
     next: Field,
     total: usize,

@@ -1,4 +1,6 @@
 // The listing's text, and that of a refusal.
+#![tactic(auto)]
+
 ghost use Rattle.std.specs.Prelude.{◌≡◌, [], ◌∷◌, ◌++◌, ◌+◌, ◌%◌, ◌≤◌, ◌<◌, length, take};
 ghost use Rattle.fields.specs.Write.{byte_of};
 ghost use Rattle.writing.specs.Inside.Put.{Put};

@@ -4,6 +4,7 @@ use Prim.Native.Nat.{ℕ}
 use mathlib.Core.Path.{◌≡◌, refl, sym}
 use mathlib.Core.List.{List, []}
 use contract.Lifetimes.{Lfts}
+use denote.MutBor.{MutBor}
 use denote.Ref.{Bor}
 use Rattle.meaning.specs.declared.Answer.{Answer}
 use Rattle.writing.specs.Lent.{Lent, Leaves}
@@ -25,7 +26,7 @@ use Rattle.trammelbud.proofs.tb_check.Reads as Check
 use Rattle.trammelbud.proofs.tb_run.Reads as Run
 use Rattle.trammelbud.proofs.tb_select.Reads as Select
 use Rattle.trammelbud.proofs.tb_list.Reads as List
-use Rattle.trammelbud.proofs.Outcomes.{Slice, Slices1, Slices2, Slices3, Slices5, OnGraph, OnFile, Writing, Running, TbReadGraph, TbReadDocument, TbReadTables, TbReadQuery, TbReadProgram, TbShred, TbRebuild, TbTranslate, TbCheck, TbRun, TbSelect, TbList, AsksNothing}
+use Rattle.trammelbud.proofs.Outcomes.{Slice, Buffer, Slices1, Slices2, Slices3, Slices5, OnGraph, OnFile, Writing, Running, TbReadGraph, TbReadDocument, TbReadTables, TbReadQuery, TbReadProgram, TbShred, TbRebuild, TbTranslate, TbCheck, TbRun, TbSelect, TbList, AsksNothing}
 
 -- the outcome is this one: it is allowed, and no other is
 pub record Is {A : Type 0} (Allowed : A → Type 0) (e : A) : Type 0 where
@@ -33,8 +34,11 @@ pub record Is {A : Type 0} (Allowed : A → Type 0) (e : A) : Type 0 where
   pub only : (a : A) → Allowed a → a ≡ e
 
 -- bytes somewhere in memory
-abbrev lying : List ℕ → Bor (List ℕ)
+abbrev lying : List ℕ → Slice
 lying bytes = record { ref_ptr = (0, 0); now = bytes }
+
+abbrev lent : List ℕ → Buffer
+lent bytes = record { ref_ptr = (0, 0); ghost_name = 0; now = bytes }
 
 -- Where a contract says the same as an equation to a definition, the definition's value is the outcome: for each shape of call.
 on_graph : (Post : Lfts 1 → Slices1 → Answer → Slices1 → Type 0) (e : List ℕ → Answer)
@@ -58,8 +62,8 @@ on_file Post e says meets gra file =
     }
 
 writing : (Post : Lfts 3 → Slices3 → Answer → Slices3 → Type 0) (e : List ℕ → List ℕ → List ℕ → Lent)
-    → ((κs : Lfts 3) (g f b x : Slice) (a : Answer) → Post κs (g, (f, (b, tt))) a (g, (f, (x, tt))) → Leaves (e g.now f.now b.now) a x.now)
-    → ((κs : Lfts 3) (g f b x : Slice) (a : Answer) → Leaves (e g.now f.now b.now) a x.now → Post κs (g, (f, (b, tt))) a (g, (f, (x, tt))))
+    → ((κs : Lfts 3) (g f : Slice) (b x : Buffer) (a : Answer) → Post κs (g, (f, (b, tt))) a (g, (f, (x, tt))) → Leaves (e g.now f.now b.now) a x.now)
+    → ((κs : Lfts 3) (g f : Slice) (b x : Buffer) (a : Answer) → Leaves (e g.now f.now b.now) a x.now → Post κs (g, (f, (b, tt))) a (g, (f, (x, tt))))
     → (gra file out : List ℕ) → Is (Writing Post gra file out) (e gra file out)
 writing Post e says meets gra file out =
     let κs : Lfts 3 = ([], ([], ([], tt))) in
@@ -69,20 +73,20 @@ writing Post e says meets gra file out =
         lives = κs;
         graph = lying gra;
         under = lying file;
-        before = lying out;
-        after = lying left.bytes;
+        before = lent out;
+        after = lent left.bytes;
         graph_is = refl;
         file_is = refl;
         before_is = refl;
         after_is = refl;
-        post = meets κs (lying gra) (lying file) (lying out) (lying left.bytes) left.answer refl;
+        post = meets κs (lying gra) (lying file) (lent out) (lent left.bytes) left.answer refl;
       };
       only = λ l c. sym (rw (c.graph_is, c.file_is, c.before_is, c.after_is) at (says c.lives c.graph c.under c.before c.after l.answer c.post));
     }
 
 running : (Post : Lfts 5 → Slices5 → Answer → Slices5 → Type 0) (e : List ℕ → List ℕ → List ℕ → List ℕ → List ℕ → Ran)
-    → ((κs : Lfts 5) (g t f b w x y : Slice) (a : Answer) → Post κs (g, (t, (f, (b, (w, tt))))) a (g, (t, (f, (x, (y, tt))))) → Gives (e g.now t.now f.now b.now w.now) a x.now y.now)
-    → ((κs : Lfts 5) (g t f b w x y : Slice) (a : Answer) → Gives (e g.now t.now f.now b.now w.now) a x.now y.now → Post κs (g, (t, (f, (b, (w, tt))))) a (g, (t, (f, (x, (y, tt))))))
+    → ((κs : Lfts 5) (g t f : Slice) (b w x y : Buffer) (a : Answer) → Post κs (g, (t, (f, (b, (w, tt))))) a (g, (t, (f, (x, (y, tt))))) → Gives (e g.now t.now f.now b.now w.now) a x.now y.now)
+    → ((κs : Lfts 5) (g t f : Slice) (b w x y : Buffer) (a : Answer) → Gives (e g.now t.now f.now b.now w.now) a x.now y.now → Post κs (g, (t, (f, (b, (w, tt))))) a (g, (t, (f, (x, (y, tt))))))
     → (gra edg file out work : List ℕ) → Is (Running Post gra edg file out work) (e gra edg file out work)
 running Post e says meets gra edg file out work =
     let κs : Lfts 5 = ([], ([], ([], ([], ([], tt))))) in
@@ -93,10 +97,10 @@ running Post e says meets gra edg file out work =
         graph = lying gra;
         tables = lying edg;
         under = lying file;
-        out_before = lying out;
-        work_before = lying work;
-        out_after = lying left.out;
-        work_after = lying left.work;
+        out_before = lent out;
+        work_before = lent work;
+        out_after = lent left.out;
+        work_after = lent left.work;
         graph_is = refl;
         tables_is = refl;
         file_is = refl;
@@ -104,7 +108,7 @@ running Post e says meets gra edg file out work =
         work_is = refl;
         out_left = refl;
         work_left = refl;
-        post = meets κs (lying gra) (lying edg) (lying file) (lying out) (lying work) (lying left.out) (lying left.work) left.answer refl;
+        post = meets κs (lying gra) (lying edg) (lying file) (lent out) (lent work) (lent left.out) (lent left.work) left.answer refl;
       };
       only = λ r c.
           sym (rw (c.graph_is, c.tables_is, c.file_is, c.out_is, c.work_is, c.out_left, c.work_left) at

@@ -1,9 +1,8 @@
 -- What each public call may answer and leave, by the contract that its code carries: `Post` is read off the call's own `ensures`
 -- by Rattle. A page to read; it stands here because `specs/` can't see the code's contracts.
-use Prim.Native.Nat.{ℕ}
-use mathlib.Core.Path.{◌≡◌}
-use mathlib.Core.List.{List}
+use Rattle.std.specs.Prelude.{ℕ, ◌≡◌, List}
 use contract.Lifetimes.{Lfts}
+use denote.MutBor.{MutBor}
 use denote.Ref.{Bor}
 use Rattle.meaning.specs.declared.Answer.{Answer}
 use Rattle.writing.specs.Lent.{Lent}
@@ -22,11 +21,15 @@ use Rattle.trammelbud.proofs.tb_run.Reads as Run
 use Rattle.trammelbud.proofs.tb_select.Reads as Select
 use Rattle.trammelbud.proofs.tb_list.Reads as List
 
--- a file or a buffer as a call is handed it: where it lies, and what its bytes are `now`
+-- a file as a call is handed it: where it lies, and what its bytes are `now`
 abbrev pub Slice : Type 0
 Slice = Bor (List ℕ)
 
--- one, two, three and five of them
+-- and a buffer, which is lent to be written
+abbrev pub Buffer : Type 0
+Buffer = MutBor (List ℕ)
+
+-- one file, two, two beside a buffer, and three beside two buffers
 abbrev pub Slices1 : Type 0
 Slices1 = Slice × Unit {0}
 
@@ -34,10 +37,10 @@ abbrev pub Slices2 : Type 0
 Slices2 = Slice × Slices1
 
 abbrev pub Slices3 : Type 0
-Slices3 = Slice × Slices2
+Slices3 = Slice × (Slice × (Buffer × Unit {0}))
 
 abbrev pub Slices5 : Type 0
-Slices5 = Slice × (Slice × Slices3)
+Slices5 = Slice × (Slice × (Slice × (Buffer × (Buffer × Unit {0}))))
 
 -- A call on a graph alone: handed these bytes, wherever they lie, it may answer so.
 pub record OnGraph (Post : Lfts 1 → Slices1 → Answer → Slices1 → Type 0) (gra : List ℕ) (answer : Answer) : Type 0 where
@@ -60,8 +63,8 @@ pub record Writing (Post : Lfts 3 → Slices3 → Answer → Slices3 → Type 0)
   pub lives : Lfts 3
   pub graph : Slice
   pub under : Slice
-  pub before : Slice
-  pub after : Slice
+  pub before : Buffer
+  pub after : Buffer
   pub graph_is : graph.now ≡ gra
   pub file_is : under.now ≡ file
   pub before_is : before.now ≡ out
@@ -74,10 +77,10 @@ pub record Running (Post : Lfts 5 → Slices5 → Answer → Slices5 → Type 0)
   pub graph : Slice
   pub tables : Slice
   pub under : Slice
-  pub out_before : Slice
-  pub work_before : Slice
-  pub out_after : Slice
-  pub work_after : Slice
+  pub out_before : Buffer
+  pub work_before : Buffer
+  pub out_after : Buffer
+  pub work_after : Buffer
   pub graph_is : graph.now ≡ gra
   pub tables_is : tables.now ≡ edg
   pub file_is : under.now ≡ file

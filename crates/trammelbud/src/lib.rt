@@ -1,5 +1,7 @@
 // The public calls. Each takes any bytes; the graph is read first, and the first refusal met is the answer. A call that is
 // turned away leaves what it was lent as it came.
+#![tactic(auto)]
+
 ghost use Rattle.std.specs.Prelude.{◌≡◌};
 ghost use Rattle.writing.specs.Lent.{Leaves};
 ghost use Rattle.translator.specs.Translate.{translation};
@@ -31,8 +33,7 @@ fn counted(outcome: Outcome, count: usize) -> Answer
 }
 
 // A graph: how many types it has.
-#[unsafe(no_mangle)]
-pub extern "C" fn tb_read_graph(gra: &[u8]) -> Answer
+pub fn tb_read_graph(gra: &[u8]) -> Answer
     ensures { result ≡ read_graph gra.now }
 {
     let read = graph::read(gra);
@@ -41,8 +42,7 @@ pub extern "C" fn tb_read_graph(gra: &[u8]) -> Answer
 }
 
 // A document: how many elements it has.
-#[unsafe(no_mangle)]
-pub extern "C" fn tb_read_document(gra: &[u8], tre: &[u8]) -> Answer
+pub fn tb_read_document(gra: &[u8], tre: &[u8]) -> Answer
     ensures { result ≡ read_document gra.now tre.now }
 {
     let mut kept = [BLANK; SMALL.elements];
@@ -52,8 +52,7 @@ pub extern "C" fn tb_read_document(gra: &[u8], tre: &[u8]) -> Answer
 }
 
 // Tables: how many elements they hold.
-#[unsafe(no_mangle)]
-pub extern "C" fn tb_read_tables(gra: &[u8], edg: &[u8]) -> Answer
+pub fn tb_read_tables(gra: &[u8], edg: &[u8]) -> Answer
     ensures { result ≡ read_tables gra.now edg.now }
 {
     let mut kept = [BLANK; SMALL.elements];
@@ -63,8 +62,7 @@ pub extern "C" fn tb_read_tables(gra: &[u8], edg: &[u8]) -> Answer
 }
 
 // A query: how many nodes it has.
-#[unsafe(no_mangle)]
-pub extern "C" fn tb_read_query(gra: &[u8], qry: &[u8]) -> Answer
+pub fn tb_read_query(gra: &[u8], qry: &[u8]) -> Answer
     ensures { result ≡ read_query gra.now qry.now }
 {
     let opened = files::query(gra, qry);
@@ -73,8 +71,7 @@ pub extern "C" fn tb_read_query(gra: &[u8], qry: &[u8]) -> Answer
 }
 
 // A program: how many steps it has.
-#[unsafe(no_mangle)]
-pub extern "C" fn tb_read_program(gra: &[u8], rel: &[u8]) -> Answer
+pub fn tb_read_program(gra: &[u8], rel: &[u8]) -> Answer
     ensures { result ≡ read_program gra.now rel.now }
 {
     let opened = files::program(gra, rel);
@@ -83,46 +80,35 @@ pub extern "C" fn tb_read_program(gra: &[u8], rel: &[u8]) -> Answer
 }
 
 // The tables of a document. `out` needs 6 + k + 4n bytes; the length written is the answer.
-#[unsafe(no_mangle)]
-pub extern "C" fn tb_shred(gra: &[u8], tre: &[u8], out: &mut [u8]) -> Answer
+pub fn tb_shred(gra: &[u8], tre: &[u8], out: &mut [u8]) -> Answer
     ensures { Leaves (shredded gra.now tre.now out.old) result out.new }
 {
     convert::shred(gra, tre, out)
 }
 
 // The document of tables. `out` needs 5 + 5n bytes; the length written is the answer.
-#[unsafe(no_mangle)]
-pub extern "C" fn tb_rebuild(gra: &[u8], edg: &[u8], out: &mut [u8]) -> Answer
+pub fn tb_rebuild(gra: &[u8], edg: &[u8], out: &mut [u8]) -> Answer
     ensures { Leaves (rebuilt gra.now edg.now out.old) result out.new }
 {
     convert::rebuild(gra, edg, out)
 }
 
 // The program of a query. `out` needs 6 bytes and 3 for each step; the length written is the answer.
-#[unsafe(no_mangle)]
-pub extern "C" fn tb_translate(gra: &[u8], qry: &[u8], out: &mut [u8]) -> Answer
+pub fn tb_translate(gra: &[u8], qry: &[u8], out: &mut [u8]) -> Answer
     ensures { Leaves (translation gra.now qry.now out.old) result out.new }
 {
     translator::translate(gra, qry, out)
 }
 
 // What each step of a program may join: for each of 17 kinds, the set of kinds.
-#[unsafe(no_mangle)]
-pub extern "C" fn tb_check(gra: &[u8], rel: &[u8]) -> Checked
+pub fn tb_check(gra: &[u8], rel: &[u8]) -> Checked
     ensures { result ≡ check_of gra.now rel.now }
 {
     announce::check(gra, rel)
 }
 
 // Runs a program. `out` needs n+1 bytes for the nodes, `work` 2,048 for each step; the number of nodes is the answer.
-#[unsafe(no_mangle)]
-pub extern "C" fn tb_run(
-    gra: &[u8],
-    edg: &[u8],
-    rel: &[u8],
-    out: &mut [u8],
-    work: &mut [u8],
-) -> Answer
+pub fn tb_run(gra: &[u8], edg: &[u8], rel: &[u8], out: &mut [u8], work: &mut [u8]) -> Answer
     ensures { Gives (run_of gra.now edg.now rel.now out.old work.old) result out.new work.new }
 {
     runner::run(gra, edg, rel, out, work)
@@ -130,14 +116,7 @@ pub extern "C" fn tb_run(
 
 // The nodes that a query selects. `out` needs n+1 bytes for them, `work` 2,048 for each step of the query's program; their
 // number is the answer.
-#[unsafe(no_mangle)]
-pub extern "C" fn tb_select(
-    gra: &[u8],
-    edg: &[u8],
-    qry: &[u8],
-    out: &mut [u8],
-    work: &mut [u8],
-) -> Answer
+pub fn tb_select(gra: &[u8], edg: &[u8], qry: &[u8], out: &mut [u8], work: &mut [u8]) -> Answer
     ensures { Gives (select_of gra.now edg.now qry.now out.old work.old) result out.new work.new }
 {
     let mut kept = [BLANK; SMALL.elements];
@@ -152,14 +131,7 @@ pub extern "C" fn tb_select(
 
 // The listing of the nodes that a query selects. `text` needs 13(n+2) bytes, which the longest one takes, `work` 2,048 for
 // each step of the query's program; the listing's length is the answer.
-#[unsafe(no_mangle)]
-pub extern "C" fn tb_list(
-    gra: &[u8],
-    edg: &[u8],
-    qry: &[u8],
-    text: &mut [u8],
-    work: &mut [u8],
-) -> Answer
+pub fn tb_list(gra: &[u8], edg: &[u8], qry: &[u8], text: &mut [u8], work: &mut [u8]) -> Answer
     ensures { Gives (list_of gra.now edg.now qry.now text.old work.old) result text.new work.new }
 {
     let mut kept = [BLANK; SMALL.elements];

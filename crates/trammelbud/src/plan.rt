@@ -16,7 +16,7 @@ use program::{EMPTY, ProgramRead};
 const FILE: usize = 78;
 
 // How many elements are kept, and the program to run over them.
-#[derive(Drop)]
+#[derive(Clone, Copy)]
 pub(crate) struct Plan {
     pub outcome: Outcome,
     pub count: usize,

@@ -1,5 +1,7 @@
 // The translator: a query's program, written as a file. The graph is judged, then the query; 11 comes next, the room last,
 // and no byte is written before all of that is known.
+#![tactic(auto)]
+
 mod count;
 
 ghost use Rattle.std.specs.Prelude.{length};

@@ -1,4 +1,6 @@
 // The field writers that every written file shares, and what a call answers.
+#![tactic(auto)]
+
 ghost use Rattle.std.specs.Prelude.{◌≡◌, ◌+◌, ◌<◌, ◌≤◌, length};
 ghost use Rattle.fields.specs.Write.{byte_of, word_of, header_of};
 ghost use Rattle.writing.specs.Lent.{accepted, turned_away};

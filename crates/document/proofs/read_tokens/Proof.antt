@@ -7,11 +7,11 @@ use Rattle.document.proofs.Reading.{Reaches, token_laws}
 use Rattle.document.proofs.read_tokens.Statement.{statement}
 use Rattle.document.proofs.read_tokens.Tie as tie
 
-abbrev invariant-loop : tie.invariant-loop
+abbrev invariant-loop : tie.invariant-loop-after
 invariant-loop kept₀ s g standing₀ cursor₀ kept standing cursor =
     Reaches (tokens (length s) element_limit g nothing_open s cursor₀.at) g s kept standing cursor.at
 
-abbrev decreases-loop : tie.decreases-loop
+abbrev decreases-loop : tie.decreases-loop-after
 decreases-loop kept₀ s g standing₀ cursor₀ kept standing cursor =
     length s - cursor.at
 

@@ -4,10 +4,10 @@ use Rattle.graph.proofs.MaskReading.{Sofar, laws}
 use Rattle.graph.proofs.masks.Statement.{statement}
 use Rattle.graph.proofs.masks.Tie as tie
 
-abbrev invariant-loop : tie.invariant-loop
+abbrev invariant-loop : tie.invariant-loop-i
 invariant-loop s k masks₀ cursor₀ i₀ masks cursor i = Sofar s k cursor₀.at masks cursor.at i
 
-abbrev decreases-loop : tie.decreases-loop
+abbrev decreases-loop : tie.decreases-loop-i
 decreases-loop s k masks₀ cursor₀ i₀ masks cursor i = k - i
 
 pub masks_spec : {M : Type 1} → statement M

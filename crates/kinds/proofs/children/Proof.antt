@@ -7,10 +7,10 @@ use Rattle.kinds.proofs.KindMasks.{Upto, imageUpto, laws}
 use Rattle.kinds.proofs.children.Statement.{statement}
 use Rattle.kinds.proofs.children.Tie as tie
 
-abbrev invariant-loop : tie.invariant-loop
+abbrev invariant-loop : tie.invariant-loop-kind
 invariant-loop g c found₀ kind₀ found kind = Upto (imageUpto (λ A. mask kinds (child_kind g A)) c) kind (bit found)
 
-abbrev decreases-loop : tie.decreases-loop
+abbrev decreases-loop : tie.decreases-loop-kind
 decreases-loop g c found₀ kind₀ found kind = kinds - kind
 
 pub children_spec : {M : Type 1} → statement M

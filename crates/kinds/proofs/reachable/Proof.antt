@@ -6,10 +6,10 @@ use Rattle.kinds.proofs.KindMasks.{Upto, rounds, laws}
 use Rattle.kinds.proofs.reachable.Statement.{statement}
 use Rattle.kinds.proofs.reachable.Tie as tie
 
-abbrev invariant-loop : tie.invariant-loop
+abbrev invariant-loop : tie.invariant-loop-round
 invariant-loop g c reached₀ round₀ reached round = Upto (rounds (child_kind g) c) round reached
 
-abbrev decreases-loop : tie.decreases-loop
+abbrev decreases-loop : tie.decreases-loop-round
 decreases-loop g c reached₀ round₀ reached round = kinds - round
 
 pub reachable_spec : {M : Type 1} → statement M

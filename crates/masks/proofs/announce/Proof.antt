@@ -5,10 +5,10 @@ use Rattle.masks.proofs.Loop.{turns}
 use Rattle.masks.proofs.announce.Statement.{statement}
 use Rattle.masks.proofs.announce.Tie as tie
 
-abbrev invariant-loop : tie.invariant-loop
+abbrev invariant-loop : tie.invariant-loop-i
 invariant-loop g p count steps₀ i₀ steps i = Made g p steps i
 
-abbrev decreases-loop : tie.decreases-loop
+abbrev decreases-loop : tie.decreases-loop-i
 decreases-loop g p count steps₀ i₀ steps i = p.count - i
 
 pub announce_spec : {M : Type 1} → statement M

@@ -7,10 +7,10 @@ use Rattle.masks.proofs.Algebra.{leads, algebra}
 use Rattle.masks.proofs.closure.Statement.{statement}
 use Rattle.masks.proofs.closure.Tie as tie
 
-abbrev invariant-loop : tie.invariant-loop
+abbrev invariant-loop : tie.invariant-loop-round
 invariant-loop a r₀ round₀ r round = Upto (leads a) round (rel_of r)
 
-abbrev decreases-loop : tie.decreases-loop
+abbrev decreases-loop : tie.decreases-loop-round
 decreases-loop a r₀ round₀ r round = kinds - round
 
 pub closure_spec : {M : Type 1} → statement M

@@ -8,10 +8,10 @@ use Rattle.masks.proofs.Algebra.{algebra}
 use Rattle.masks.proofs.image.Statement.{statement}
 use Rattle.masks.proofs.image.Tie as tie
 
-abbrev invariant-loop : tie.invariant-loop
+abbrev invariant-loop : tie.invariant-loop-i
 invariant-loop set a r₀ i₀ r i = Upto (imageUpto (λ K. get_or a.pairs K 0) set) i (bit r)
 
-abbrev decreases-loop : tie.decreases-loop
+abbrev decreases-loop : tie.decreases-loop-i
 decreases-loop set a r₀ i₀ r i = kinds - i
 
 pub image_spec : {M : Type 1} → statement M

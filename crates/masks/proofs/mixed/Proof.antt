@@ -8,10 +8,10 @@ use Rattle.masks.proofs.Algebra.{algebra}
 use Rattle.masks.proofs.mixed.Statement.{statement}
 use Rattle.masks.proofs.mixed.Tie as tie
 
-abbrev invariant-loop : tie.invariant-loop
+abbrev invariant-loop : tie.invariant-loop-i
 invariant-loop how a b r₀ i₀ r i = Rows (mixture how (rel_of a) (rel_of b)) r.pairs i
 
-abbrev decreases-loop : tie.decreases-loop
+abbrev decreases-loop : tie.decreases-loop-i
 decreases-loop how a b r₀ i₀ r i = kinds - i
 
 pub mixed_spec : {M : Type 1} → statement M

@@ -9,10 +9,10 @@ use Rattle.masks.proofs.Operations.{laws}
 use Rattle.masks.proofs.table.Statement.{statement}
 use Rattle.masks.proofs.table.Tie as tie
 
-abbrev invariant-loop : tie.invariant-loop
+abbrev invariant-loop : tie.invariant-loop-i
 invariant-loop g mask live types r₀ i₀ r i = Rows (pairs g [] (Table mask)) r.pairs i
 
-abbrev decreases-loop : tie.decreases-loop
+abbrev decreases-loop : tie.decreases-loop-i
 decreases-loop g mask live types r₀ i₀ r i = kinds - i
 
 pub table_spec : {M : Type 1} → statement M

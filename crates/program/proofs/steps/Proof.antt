@@ -4,10 +4,10 @@ use Rattle.program.proofs.Whole.{Upto, loop_laws}
 use Rattle.program.proofs.steps.Statement.{statement}
 use Rattle.program.proofs.steps.Tie as tie
 
-abbrev invariant-loop : tie.invariant-loop
+abbrev invariant-loop : tie.invariant-loop-program
 invariant-loop s k count program₀ c₀ program c = Upto s k count c₀.at program c.at
 
-abbrev decreases-loop : tie.decreases-loop
+abbrev decreases-loop : tie.decreases-loop-program
 decreases-loop s k count program₀ c₀ program c = count - program.count
 
 pub steps_spec : {M : Type 1} → statement M

@@ -5,11 +5,11 @@ use Rattle.rebuilder.proofs.Closing.{Climbing, closes_from, laws}
 use Rattle.rebuilder.proofs.close_after.Statement.{statement}
 use Rattle.rebuilder.proofs.close_after.Tie as tie
 
-abbrev invariant-loop : tie.invariant-loop
+abbrev invariant-loop : tie.invariant-loop-number
 invariant-loop kept count last out₀ at following next₀ number₀ out next number =
     Climbing (kept_in kept count) last number × Toward at (closes_from (kept_in kept count) last last) out₀ next (closes_from (kept_in kept count) last number) out
 
-abbrev decreases-loop : tie.decreases-loop
+abbrev decreases-loop : tie.decreases-loop-number
 decreases-loop kept count last out₀ at following next₀ number₀ out next number = number
 
 pub close_after_spec : {M : Type 1} → statement M

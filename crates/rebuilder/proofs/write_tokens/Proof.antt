@@ -7,11 +7,11 @@ use Rattle.rebuilder.proofs.Tokens.{tokens_after, laws}
 use Rattle.rebuilder.proofs.write_tokens.Statement.{statement}
 use Rattle.rebuilder.proofs.write_tokens.Tie as tie
 
-abbrev invariant-loop : tie.invariant-loop
+abbrev invariant-loop : tie.invariant-loop-last
 invariant-loop kept count out₀ at all next₀ last₀ out next last =
     (last ≤ count) × Toward at (tokens_in (kept_in kept count)) out₀ next (tokens_after (kept_in kept count) last) out
 
-abbrev decreases-loop : tie.decreases-loop
+abbrev decreases-loop : tie.decreases-loop-last
 decreases-loop kept count out₀ at all next₀ last₀ out next last = all - last
 
 pub write_tokens_spec : {M : Type 1} → statement M

@@ -9,7 +9,7 @@ use Rattle.rows.proofs.count.Tie as tie
 
 returns : tie.Need-returns
 unfolding listed
-returns c = count_more _ 1 (rw zero-add at (count_more c.before.before.args.t1 0 {n = 0} refl c.before.ones.ensures.0)) c.ones2.ensures.0
+returns c = count_more _ 1 (rw zero-add at (count_more c.before.before.args.row 0 {n = 0} refl c.before.ones.ensures.0)) c.ones-2.ensures.0
 
 pub count_spec : {M : Type 1} → statement M
 count_spec =

@@ -9,8 +9,8 @@ use Rattle.rows.proofs.gather.Tie as tie
 returns : tie.Need-returns
 returns c =
     gathered_word _ _ _ _ _ 1 (omega arith) refl
-    (gathered_word _ _ _ _ _ 0 (omega arith) (omega arith) (gathered_nothing _ _ _ _ _ (record { bits = λ w. refl })) c.before.gather-word.ensures)
-    c.gather-word2.ensures
+    (gathered_word _ _ _ _ _ 0 (omega arith) (omega arith) (gathered_nothing _ _ _ _ _ (record { bits = λ w. refl })) c.before.gather_word-first.ensures)
+    c.gather_word.ensures
 
 pub gather_spec : {M : Type 1} → statement M
 gather_spec =

@@ -4,10 +4,10 @@ use Rattle.rows.proofs.Gathers.{Gathering, gather_laws}
 use Rattle.rows.proofs.gather_word.Statement.{statement}
 use Rattle.rows.proofs.gather_word.Tie as tie
 
-abbrev invariant-loop : tie.invariant-loop
+abbrev invariant-loop : tie.invariant-loop-left
 invariant-loop bytes at which all₀ left₀ all left = Gathering 64 small.row bytes at which all₀ left all
 
-abbrev decreases-loop : tie.decreases-loop
+abbrev decreases-loop : tie.decreases-loop-left
 decreases-loop bytes at which all₀ left₀ all left = left
 
 pub gather_word_spec : {M : Type 1} → statement M

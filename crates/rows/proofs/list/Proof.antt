@@ -6,10 +6,10 @@ use Rattle.rows.proofs.Tallies.{Listing, list_laws}
 use Rattle.rows.proofs.list.Statement.{statement}
 use Rattle.rows.proofs.list.Tie as tie
 
-abbrev invariant-loop : tie.invariant-loop
+abbrev invariant-loop : tie.invariant-loop-w
 invariant-loop row size out₀ m₀ w₀ out m w = Listing (row_bits small.row) size (in_row row) out₀ out m w
 
-abbrev decreases-loop : tie.decreases-loop
+abbrev decreases-loop : tie.decreases-loop-w
 decreases-loop row size out₀ m₀ w₀ out m w = row_bits small.row - w
 
 pub list_spec : {M : Type 1} → statement M

@@ -7,7 +7,7 @@ use Rattle.rows.proofs.mixed.Statement.{statement}
 use Rattle.rows.proofs.mixed.Tie as tie
 
 returns : tie.Need-returns
-returns c = row_mixed 2 _ _ _ (digit _ c.before.mixed-word.ensures c.mixed-word2.ensures) refl (search rules) (search rules)
+returns c = row_mixed 2 _ _ _ (digit _ c.before.mixed_word.ensures c.mixed_word-2.ensures) refl (search rules) (search rules)
 
 pub mixed_spec : {M : Type 1} → statement M
 mixed_spec =

@@ -5,10 +5,10 @@ use Rattle.rows.proofs.Rows.{Seeking, next_laws}
 use Rattle.rows.proofs.next.Statement.{statement}
 use Rattle.rows.proofs.next.Tie as tie
 
-abbrev invariant-loop : tie.invariant-loop
+abbrev invariant-loop : tie.invariant-loop-w
 invariant-loop from row w₀ w = Seeking (row_bits small.row) row from w
 
-abbrev decreases-loop : tie.decreases-loop
+abbrev decreases-loop : tie.decreases-loop-w
 decreases-loop from row w₀ w = row_bits small.row - w
 
 pub next_spec : {M : Type 1} → statement M

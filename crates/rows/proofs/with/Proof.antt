@@ -13,6 +13,6 @@ with_spec =
     (λ c. search laws)
     (λ c. search laws)
     (λ c. search laws)
-    (λ c. with_one _ _ 0 _ c.before.if1.true (search laws) (search laws) (search laws))
-    (λ c. with_one _ _ 1 _ c.before.if1.true (search laws) (search laws) (search laws))
+    (λ c. with_one _ _ 0 _ c.before.if-there.true (search laws) (search laws) (search laws))
+    (λ c. with_one _ _ 1 _ c.before.if-there.true (search laws) (search laws) (search laws))
     (λ c. search laws))

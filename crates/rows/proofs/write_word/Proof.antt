@@ -6,10 +6,10 @@ use Rattle.rows.proofs.Words.{laws}
 use Rattle.rows.proofs.write_word.Statement.{statement}
 use Rattle.rows.proofs.write_word.Tie as tie
 
-abbrev invariant-loop : tie.invariant-loop
+abbrev invariant-loop : tie.invariant-loop-k
 invariant-loop work₀ at word k₀ work k = (k ≤ 8) × BytesMade work₀ work at k (λ j. mask 8 (λ i. bit word (8 * j + i)))
 
-abbrev decreases-loop : tie.decreases-loop
+abbrev decreases-loop : tie.decreases-loop-k
 decreases-loop work₀ at word k₀ work k = 8 - k
 
 pub write_word_spec : {M : Type 1} → statement M

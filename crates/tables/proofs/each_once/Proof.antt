@@ -8,11 +8,11 @@ use Rattle.tables.proofs.Elements.{ones_laws}
 use Rattle.tables.proofs.each_once.Statement.{statement}
 use Rattle.tables.proofs.each_once.Tie as tie
 
-abbrev invariant-loop : tie.invariant-loop
+abbrev invariant-loop : tie.invariant-loop-i
 invariant-loop times total i₀ i =
     (i ≤ total) × (ones i (λ j. get_or times j 0) ≡ true)
 
-abbrev decreases-loop : tie.decreases-loop
+abbrev decreases-loop : tie.decreases-loop-i
 decreases-loop times total i₀ i =
     total - i
 

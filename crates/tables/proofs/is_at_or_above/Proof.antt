@@ -7,11 +7,11 @@ use Rattle.tables.proofs.Elements.{Climbing, climb_laws}
 use Rattle.tables.proofs.is_at_or_above.Statement.{statement}
 use Rattle.tables.proofs.is_at_or_above.Tie as tie
 
-abbrev invariant-loop : tie.invariant-loop
+abbrev invariant-loop : tie.invariant-loop-node
 invariant-loop kept total v w node₀ node =
     Climbing kept total (ltb 0 v && (eqb v w || below (view (kept_in kept total)) v w)) v node
 
-abbrev decreases-loop : tie.decreases-loop
+abbrev decreases-loop : tie.decreases-loop-node
 decreases-loop kept total v w node₀ node =
     node
 

@@ -8,11 +8,11 @@ use Rattle.tables.proofs.Elements.{Judging, judging_laws}
 use Rattle.tables.proofs.judge_elements.Statement.{statement}
 use Rattle.tables.proofs.judge_elements.Tie as tie
 
-abbrev invariant-loop : tie.invariant-loop
+abbrev invariant-loop : tie.invariant-loop-g
 invariant-loop g kept total end i₀ i =
     Judging g (kept_in kept total) total (passed (elements_judged g (kept_in kept total) 1 total [] end.at)) end.at i
 
-abbrev decreases-loop : tie.decreases-loop
+abbrev decreases-loop : tie.decreases-loop-g
 decreases-loop g kept total end i₀ i =
     suc total - i
 

@@ -7,11 +7,11 @@ use Rattle.tables.proofs.Tables.{Upto, table_laws}
 use Rattle.tables.proofs.read_table.Statement.{statement}
 use Rattle.tables.proofs.read_table.Tie as tie
 
-abbrev invariant-loop : tie.invariant-loop
+abbrev invariant-loop : tie.invariant-loop-left
 invariant-loop part kind count kept₀ times₀ before total₀ cursor₀ last₀ left₀ kept times total cursor last left =
     Upto (mapped (put_all (gathered_in kept₀ times₀ total₀)) (rows_read element_limit kind 0 count part 0)) kind part (gathered_in kept times total) last left cursor.at
 
-abbrev decreases-loop : tie.decreases-loop
+abbrev decreases-loop : tie.decreases-loop-left
 decreases-loop part kind count kept₀ times₀ before total₀ cursor₀ last₀ left₀ kept times total cursor last left =
     left
 

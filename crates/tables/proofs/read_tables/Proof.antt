@@ -8,11 +8,11 @@ use Rattle.tables.proofs.Tables.{Below, tables_laws}
 use Rattle.tables.proofs.read_tables.Statement.{statement}
 use Rattle.tables.proofs.read_tables.Tie as tie
 
-abbrev invariant-loop : tie.invariant-loop
+abbrev invariant-loop : tie.invariant-loop-kind
 invariant-loop s k kept₀ times₀ total₀ cursor₀ kind₀ kept times total cursor kind =
     Below (mapped (put_all none) (tables_read element_limit 0 0 k s cursor₀.at)) s k (gathered_in kept times total) kind cursor.at
 
-abbrev decreases-loop : tie.decreases-loop
+abbrev decreases-loop : tie.decreases-loop-kind
 decreases-loop s k kept₀ times₀ total₀ cursor₀ kind₀ kept times total cursor kind =
     k - kind
 

@@ -4,10 +4,10 @@ use Rattle.rooms.proofs.Closings.{Closes, closure_laws}
 use Rattle.rooms.proofs.room.closure.Statement.{statement}
 use Rattle.rooms.proofs.room.closure.Tie as tie
 
-abbrev invariant-loop : tie.invariant-loop
+abbrev invariant-loop : tie.invariant-loop-steps
 invariant-loop work₀ base a size width steps₀ work steps = Closes width work₀ work base a size steps
 
-abbrev decreases-loop : tie.decreases-loop
+abbrev decreases-loop : tie.decreases-loop-steps
 decreases-loop work₀ base a size width steps₀ work steps = size - steps
 
 pub closure_spec : {M : Type 1} → statement M

@@ -7,10 +7,10 @@ use Rattle.rooms.proofs.Turns.{starts_laws}
 use Rattle.rooms.proofs.room.starts.Statement.{statement}
 use Rattle.rooms.proofs.room.starts.Tie as tie
 
-abbrev invariant-loop : tie.invariant-loop
+abbrev invariant-loop : tie.invariant-loop-v
 invariant-loop work a size width all₀ v₀ all v = (v ≤ size) × Bits all (starting (row_bits width) v (rows_at width work a))
 
-abbrev decreases-loop : tie.decreases-loop
+abbrev decreases-loop : tie.decreases-loop-v
 decreases-loop work a size width all₀ v₀ all v = size - v
 
 pub starts_spec : {M : Type 1} → statement M

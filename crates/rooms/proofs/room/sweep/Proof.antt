@@ -3,10 +3,10 @@ use Rattle.rooms.proofs.Closings.{Sweeps, sweep_laws}
 use Rattle.rooms.proofs.room.sweep.Statement.{statement}
 use Rattle.rooms.proofs.room.sweep.Tie as tie
 
-abbrev invariant-loop : tie.invariant-loop
+abbrev invariant-loop : tie.invariant-loop-v
 invariant-loop work₀ base a size width grew₀ back₀ v₀ work grew back v = Sweeps width work₀ work base a size v grew back
 
-abbrev decreases-loop : tie.decreases-loop
+abbrev decreases-loop : tie.decreases-loop-v
 decreases-loop work₀ base a size width grew₀ back₀ v₀ work grew back v = v
 
 pub sweep_spec : {M : Type 1} → statement M

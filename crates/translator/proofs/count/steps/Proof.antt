@@ -5,10 +5,10 @@ use Rattle.translator.proofs.Counting.{Upto, counts}
 use Rattle.translator.proofs.count.steps.Statement.{statement}
 use Rattle.translator.proofs.count.steps.Tie as tie
 
-abbrev invariant-loop : tie.invariant-loop
+abbrev invariant-loop : tie.invariant-loop-at
 invariant-loop qry at₀ steps₀ at steps = Upto qry at steps
 
-abbrev decreases-loop : tie.decreases-loop
+abbrev decreases-loop : tie.decreases-loop-at
 decreases-loop qry at₀ steps₀ at steps = length qry - at
 
 pub steps_spec : {M : Type 1} → statement M
