@@ -3,14 +3,15 @@
 // `work`. A call that takes fewer files or buffers has arguments that it doesn't look at.
 #![tactic(auto)]
 
-ghost use Rattle.std.specs.Prelude.{◌+◌, ◌<◌, ◌≤◌, ◌^◌};
-ghost use Rattle.io.specs.Counts.{IsPrefixLen};
+ghost use Rattle.std.specs.Prelude.{◌≡◌, ◌+◌, ◌<◌, ◌≤◌, ◌^◌, length, take};
 
 use announce::Checked;
-use libc::STDOUT_FILENO;
 use loading::load;
 use masks::Announced;
 use meaning::Answer;
+use std::env::{Env, FillError};
+use std::fs::Files;
+use std::io;
 
 // Arguments of a case.
 const WORDS: usize = 6;
@@ -25,10 +26,6 @@ fn wide(byte: u8) -> u64
     ensures { result < 256 }
 {
     byte as u64
-}
-
-fn write(text: &[u8]) {
-    io::write_all(STDOUT_FILENO, text);
 }
 
 // What a lent buffer holds at a place before the call.
@@ -66,79 +63,67 @@ fn sum(buffer: &[u8]) -> u64 {
     sum
 }
 
-fn print_state(buffer: &[u8]) {
+fn state(buffer: &[u8]) -> &'static str {
     if is_as_filled(buffer) {
-        write(b" same ");
+        "same"
     } else {
-        write(b" changed ");
+        "changed"
     }
 }
 
-fn print_bytes(bytes: &[u8]) {
-    let mut i: usize = 0;
-    while i < bytes.len() {
-        io::print_hex(STDOUT_FILENO, wide(bytes[i]), 2);
-        i += 1;
+fn print_bytes(rt: &impl Print, bytes: &[u8]) -> io::Result<()> {
+    for byte in bytes {
+        print!(rt; "{byte:02x}")?;
     }
+    Ok(())
 }
 
-fn print_out(out: &[u8]) {
-    write(b"out");
-    print_state(out);
-    print_bytes(out);
-    write(b"\n");
+fn print_out(rt: &impl Print, out: &[u8]) -> io::Result<()> {
+    let state = state(out);
+    print!(rt; "out {state} ")?;
+    print_bytes(rt, out)?;
+    println!(rt; "")
 }
 
-fn print_work(work: &[u8]) {
-    write(b"work");
-    print_state(work);
-    io::print_hex(STDOUT_FILENO, sum(work), 14);
-    write(b"\n");
+fn print_work(rt: &impl Print, work: &[u8]) -> io::Result<()> {
+    let state = state(work);
+    let sum = sum(work);
+    println!(rt; "work {state} {sum:014x}")
 }
 
-fn print_answer(name: &[u8], answer: Answer) {
-    write(name);
-    write(b" ");
-    io::print_decimal(STDOUT_FILENO, answer.number as u64);
-    write(b" ");
-    io::print_decimal(STDOUT_FILENO, answer.count as u64);
-    write(b"\n");
+fn print_answer(rt: &impl Print, name: &[u8], answer: Answer) -> io::Result<()> {
+    rt.write_all(name)?;
+    let Answer { number, count } = answer;
+    println!(rt; " {number} {count}")
 }
 
-fn print_pairs_from(step: u64, kind: u64, kinds: u32) {
+fn print_pairs_from(rt: &impl Print, step: usize, kind: usize, kinds: u32) -> io::Result<()> {
     if kinds != 0 {
-        write(b" ");
-        io::print_decimal(STDOUT_FILENO, step);
-        write(b":");
-        io::print_decimal(STDOUT_FILENO, kind);
-        write(b":");
-        io::print_hex(STDOUT_FILENO, kinds as u64, 1);
+        print!(rt; " {step}:{kind}:{kinds:x}")?;
     }
+    Ok(())
 }
 
-fn print_pairs(step: usize, announced: Announced) {
-    let mut kind: usize = 0;
-    while kind < 17 {
-        print_pairs_from(step as u64, kind as u64, announced.pairs[kind]);
-        kind += 1;
+fn print_pairs(rt: &impl Print, step: usize, announced: Announced) -> io::Result<()> {
+    for kind in 0..17 {
+        print_pairs_from(rt, step, kind, announced.pairs[kind])?;
     }
+    Ok(())
 }
 
-fn print_steps(checked: Checked) {
-    let mut step: usize = 0;
-    while step < 24 {
-        print_pairs(step, checked.steps[step]);
-        step += 1;
+fn print_steps(rt: &impl Print, checked: Checked) -> io::Result<()> {
+    for step in 0..24 {
+        print_pairs(rt, step, checked.steps[step])?;
     }
+    Ok(())
 }
 
-fn print_checked(name: &[u8], checked: Checked) {
-    write(name);
-    write(b" ");
-    io::print_decimal(STDOUT_FILENO, checked.number as u64);
-    write(b"\npairs");
-    print_steps(checked);
-    write(b"\n");
+fn print_checked(rt: &impl Print, name: &[u8], checked: Checked) -> io::Result<()> {
+    rt.write_all(name)?;
+    let number = checked.number;
+    print!(rt; " {number}\npairs")?;
+    print_steps(rt, checked)?;
+    println!(rt; "")
 }
 
 // The third letter of each call's name is its own.
@@ -165,40 +150,88 @@ fn ask(call: u8, gra: &[u8], edg: &[u8], file: &[u8], out: &mut [u8], work: &mut
     }
 }
 
-fn show_convert(name: &[u8], gra: &[u8], file: &[u8], out: &mut [u8]) {
+fn show_convert(
+    rt: &impl Print,
+    name: &[u8],
+    gra: &[u8],
+    file: &[u8],
+    out: &mut [u8],
+) -> io::Result<()> {
     fill(out);
-    print_answer(name, convert(letter(name), gra, file, out));
-    print_out(out);
+    print_answer(rt, name, convert(letter(name), gra, file, out))?;
+    print_out(rt, out)
 }
 
-fn show_ask(name: &[u8], gra: &[u8], edg: &[u8], file: &[u8], out: &mut [u8], work: &mut [u8]) {
+fn show_ask(
+    rt: &impl Print,
+    name: &[u8],
+    gra: &[u8],
+    edg: &[u8],
+    file: &[u8],
+    out: &mut [u8],
+    work: &mut [u8],
+) -> io::Result<()> {
     fill(out);
     fill(work);
-    print_answer(name, ask(letter(name), gra, edg, file, out, work));
-    print_out(out);
-    print_work(work);
+    print_answer(rt, name, ask(letter(name), gra, edg, file, out, work))?;
+    print_out(rt, out)?;
+    print_work(rt, work)
 }
 
-fn lend_one(name: &[u8], gra: &[u8], file: &[u8], room: u32) {
-    let mut out = [0u8; OUT];
-    let n = io::count(room as isize, &out);
-    show_convert(name, gra, file, &mut out[..n]);
+// As much of a buffer as a case lends.
+fn lent(room: u32, buffer: &[u8]) -> usize
+    ensures { result ≤ length buffer.now }
+{
+    (room as usize).min(buffer.len())
 }
 
-fn lend_two(name: &[u8], gra: &[u8], edg: &[u8], file: &[u8], out_room: u32, work_room: u32) {
+fn lend_one(rt: &impl Print, name: &[u8], gra: &[u8], file: &[u8], room: u32) -> io::Result<()> {
     let mut out = [0u8; OUT];
-    let n = io::count(out_room as isize, &out);
+    let n = lent(room, &out);
+    show_convert(rt, name, gra, file, &mut out[..n])
+}
+
+fn lend_two(
+    rt: &impl Print,
+    name: &[u8],
+    gra: &[u8],
+    edg: &[u8],
+    file: &[u8],
+    out_room: u32,
+    work_room: u32,
+) -> io::Result<()> {
+    let mut out = [0u8; OUT];
+    let n = lent(out_room, &out);
     let mut work = [0u8; WORK];
-    let m = io::count(work_room as isize, &work);
-    show_ask(name, gra, edg, file, &mut out[..n], &mut work[..m]);
+    let m = lent(work_room, &work);
+    show_ask(rt, name, gra, edg, file, &mut out[..n], &mut work[..m])
 }
 
-fn make(name: &[u8], gra: &[u8], second: &[u8], third: &[u8], out_room: u32, work_room: u32) {
+fn make(
+    rt: &impl Print,
+    name: &[u8],
+    gra: &[u8],
+    second: &[u8],
+    third: &[u8],
+    out_room: u32,
+    work_room: u32,
+) -> io::Result<()> {
     match letter(name) {
-        b'e' => print_checked(name, trammelbud::tb_check(gra, second)),
-        b'n' | b'l' | b's' => lend_two(name, gra, second, third, out_room, work_room),
-        _ => lend_one(name, gra, second, out_room),
+        b'e' => print_checked(rt, name, trammelbud::tb_check(gra, second)),
+        b'n' | b'l' | b's' => lend_two(rt, name, gra, second, third, out_room, work_room),
+        _ => lend_one(rt, name, gra, second, out_room),
     }
+}
+
+// An argument, and how long it is; one that is missing or too long counts as empty.
+fn argument(rt: &impl Env, at: usize, buffer: &mut [u8]) -> usize
+    ensures { result ≤ length buffer.new }
+{
+    rt.arg(at, buffer).unwrap_or(0)
+}
+
+fn is_there(rt: &impl Env, argument: usize) -> bool {
+    !matches!(rt.arg(argument, &mut [0; 0]), Err(FillError::NotPresent))
 }
 
 fn digit(glyph: u8) -> u32
@@ -208,9 +241,9 @@ fn digit(glyph: u8) -> u32
 }
 
 // The number that an argument spells in decimal, with five digits at most.
-fn number(argument: usize) -> u32 {
+fn number(rt: &impl Env, at: usize) -> u32 {
     let mut text = [0u8; 5];
-    let n = os::arg(argument, &mut text);
+    let n = argument(rt, at, &mut text);
     decimal(&text[..n])
 }
 
@@ -225,42 +258,45 @@ fn decimal(text: &[u8]) -> u32 {
 }
 
 // The file that an argument names.
-fn file(argument: usize, buffer: &mut [u8]) -> usize
-    ensures { IsPrefixLen result buffer.new }
+fn file(rt: &(impl Env + Files), at: usize, buffer: &mut [u8]) -> usize
+    ensures inside { result ≤ length buffer.new }
+    ensures prefix { result ≡ length (take result buffer.new) }
 {
     let mut name = [0u8; 64];
-    let n = os::arg(argument, &mut name);
-    load(&name[..n], buffer)
+    let n = argument(rt, at, &mut name);
+    load(rt, &name[..n], buffer)
 }
 
 // The buffers are longer than any file among the vectors.
-fn judge(first: usize)
+fn judge(rt: &(impl Env + Files + Print), first: usize) -> io::Result<()>
     requires { first + 6 ≤ 2 ^ 64 }
 {
     let mut name = [0u8; 64];
-    let n = os::arg(first, &mut name);
+    let n = argument(rt, first, &mut name);
     let mut gra = [0u8; 1024];
-    let g = file(first + 1, &mut gra);
+    let g = file(rt, first + 1, &mut gra);
     let mut second = [0u8; 1024];
-    let s = file(first + 2, &mut second);
+    let s = file(rt, first + 2, &mut second);
     let mut third = [0u8; 1024];
-    let t = file(first + 3, &mut third);
+    let t = file(rt, first + 3, &mut third);
     make(
+        rt,
         &name[..n],
         &gra[..g],
         &second[..s],
         &third[..t],
-        number(first + 4),
-        number(first + 5),
-    );
+        number(rt, first + 4),
+        number(rt, first + 5),
+    )
 }
 
-// The arguments are counted from 1; argument 0 is the program's own name.
-fn main() {
-    let cases = os::arg_count() / WORDS;
-    let mut case: usize = 0;
-    while case < cases {
-        judge(WORDS * case + 1);
-        case += 1;
+// The arguments are counted from 1, since argument 0 is the program's own name; a case needs all but its last.
+fn main(rt: HostRuntime) -> io::Result<()> {
+    for case in 0..usize::MAX / WORDS {
+        if !is_there(&rt, WORDS * case + 5) {
+            break;
+        }
+        judge(&rt, WORDS * case + 1)?;
     }
+    Ok(())
 }

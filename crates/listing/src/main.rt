@@ -4,29 +4,30 @@
 ghost use Rattle.std.specs.Prelude.{◌≡◌, ◌+◌, ◌*◌, ◌≤◌, length};
 ghost use Rattle.meaning.specs.Limits.{small, element_limit, step_limit, room_bytes};
 
-use libc::STDOUT_FILENO;
 use loading::load;
 use meaning::{Answer, SMALL};
+use std::io;
 
 // The text is inside the buffer, as the contract of the call that wrote it says; to ask once more spares main a contract of
 // its own.
-fn print_text(text: &[u8], length: usize) {
+fn print_text(rt: &impl Print, text: &[u8], length: usize) -> io::Result<()> {
     if length <= text.len() {
-        io::write_all(STDOUT_FILENO, &text[..length]);
+        rt.write_all(&text[..length])?;
     }
+    Ok(())
 }
 
-fn print_refused(number: u8) {
+fn print_refused(rt: &impl Print, number: u8) -> io::Result<()> {
     let mut line = [0u8; 14];
     let length = text::refusal(number, &mut line);
-    print_text(&line, length);
+    print_text(rt, &line, length)
 }
 
-fn print(answer: Answer, listing: &[u8]) {
+fn print(rt: &impl Print, answer: Answer, listing: &[u8]) -> io::Result<()> {
     if answer.number == 0 {
-        print_text(listing, answer.count as usize);
+        print_text(rt, listing, answer.count as usize)
     } else {
-        print_refused(answer.number);
+        print_refused(rt, answer.number)
     }
 }
 
@@ -45,15 +46,15 @@ fn listed(gra: &[u8], edg: &[u8], qry: &[u8], text: &mut [u8], work: &mut [u8]) 
 
 // No file of 1,024 bytes is accepted: a graph has at most 39, tables 530, a query fewer than 78. So a longer file is judged
 // by its first 1,024 bytes as the whole of it would be.
-fn main() {
+fn main(rt: HostRuntime) -> io::Result<()> {
     let mut gra = [0u8; 1024];
-    let g = load(b"graph.gra", &mut gra);
+    let g = load(&rt, b"graph.gra", &mut gra);
     let mut edg = [0u8; 1024];
-    let e = load(b"tables.edg", &mut edg);
+    let e = load(&rt, b"tables.edg", &mut edg);
     let mut qry = [0u8; 1024];
-    let q = load(b"query.qry", &mut qry);
+    let q = load(&rt, b"query.qry", &mut qry);
     let mut listing = [0u8; TEXT];
     let mut work = [0u8; WORK];
     let answer = listed(&gra[..g], &edg[..e], &qry[..q], &mut listing, &mut work);
-    print(answer, &listing);
+    print(&rt, answer, &listing)
 }

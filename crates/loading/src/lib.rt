@@ -1,14 +1,36 @@
 // Files, as the programs take them.
 #![tactic(auto)]
 
-ghost use Rattle.io.specs.Counts.{IsPrefixLen};
+ghost use Rattle.std.specs.Prelude.{◌≡◌, ◌≤◌, length, take};
+
+use std::fs;
+use std::fs::Files;
+use std::io::Read;
+
+// What the reader gives until the buffer is full, it ends or a read fails.
+fn fill<R: Read>(reader: &mut R, buffer: &mut [u8]) -> usize
+    ensures { result ≤ length buffer.new }
+{
+    let mut done: usize = 0;
+    while done < buffer.len() {
+        match reader.read(&mut buffer[done..]) {
+            Ok(n) if 0 < n => done += n,
+            _ => return done,
+        }
+    }
+    done
+}
 
 // What the file holds from its start on, up to the buffer's length. One that is missing or can't be read counts as empty.
-pub fn load(name: &[u8], buffer: &mut [u8]) -> usize
-    ensures { IsPrefixLen result buffer.new }
+pub fn load<R: Files>(rt: &R, name: &[u8], buffer: &mut [u8]) -> usize
+    ensures inside { result ≤ length buffer.new }
+    ensures prefix { result ≡ length (take result buffer.new) }
 {
-    let fd = os::open_read(name);
-    let n = io::read_full(fd, buffer);
-    libc::close(fd);
-    n
+    let Ok(path) = str::from_utf8(name) else {
+        return 0;
+    };
+    match fs::open(rt, path) {
+        Ok(mut file) => fill(&mut file, buffer),
+        Err(_) => 0,
+    }
 }

@@ -2,9 +2,13 @@
 // what the reader of its kind answers.
 #![tactic(auto)]
 
-use libc::STDOUT_FILENO;
+ghost use Rattle.std.specs.Prelude.{◌≤◌, length};
+
 use loading::load;
 use meaning::Answer;
+use std::env::{Env, FillError};
+use std::fs::Files;
+use std::io;
 
 // The name's ending begins with a letter of its own for each kind of file.
 fn kind(name: &[u8]) -> u8 {
@@ -24,38 +28,47 @@ fn answer(kind: u8, gra: &[u8], file: &[u8]) -> Answer {
     }
 }
 
-fn print(name: &[u8], answer: Answer) {
-    io::write_all(STDOUT_FILENO, name);
-    io::write_all(STDOUT_FILENO, b" ");
-    io::print_decimal(STDOUT_FILENO, answer.number as u64);
-    io::write_all(STDOUT_FILENO, b" ");
-    io::print_decimal(STDOUT_FILENO, answer.count as u64);
-    io::write_all(STDOUT_FILENO, b"\n");
+fn print(rt: &impl Print, name: &[u8], answer: Answer) -> io::Result<()> {
+    rt.write_all(name)?;
+    let Answer { number, count } = answer;
+    println!(rt; " {number} {count}")
 }
 
 // The buffers are longer than any file among the vectors.
-fn judge(graph: &[u8], name: &[u8]) {
+fn judge(rt: &(impl Files + Print), graph: &[u8], name: &[u8]) -> io::Result<()> {
     let mut gra = [0u8; 1024];
-    let g = load(graph, &mut gra);
+    let g = load(rt, graph, &mut gra);
     let mut file = [0u8; 1024];
-    let n = load(name, &mut file);
-    print(name, answer(kind(name), &gra[..g], &file[..n]));
+    let n = load(rt, name, &mut file);
+    print(rt, name, answer(kind(name), &gra[..g], &file[..n]))
 }
 
-fn judge_pair(first: usize, second: usize) {
+// An argument, and how long it is; one that is missing or too long counts as empty.
+fn argument(rt: &impl Env, at: usize, buffer: &mut [u8]) -> usize
+    ensures { result ≤ length buffer.new }
+{
+    rt.arg(at, buffer).unwrap_or(0)
+}
+
+fn is_there(rt: &impl Env, argument: usize) -> bool {
+    !matches!(rt.arg(argument, &mut [0; 0]), Err(FillError::NotPresent))
+}
+
+fn judge_pair(rt: &(impl Env + Files + Print), first: usize, second: usize) -> io::Result<()> {
     let mut graph = [0u8; 64];
-    let g = os::arg(first, &mut graph);
+    let g = argument(rt, first, &mut graph);
     let mut name = [0u8; 64];
-    let n = os::arg(second, &mut name);
-    judge(&graph[..g], &name[..n]);
+    let n = argument(rt, second, &mut name);
+    judge(rt, &graph[..g], &name[..n])
 }
 
 // The arguments are counted from 1; argument 0 is the program's own name.
-fn main() {
-    let pairs = os::arg_count() / 2;
-    let mut pair: usize = 0;
-    while pair < pairs {
-        judge_pair(2 * pair + 1, 2 * pair + 2);
-        pair += 1;
+fn main(rt: HostRuntime) -> io::Result<()> {
+    for pair in 0..usize::MAX / 2 {
+        if !is_there(&rt, 2 * pair + 1) {
+            break;
+        }
+        judge_pair(&rt, 2 * pair + 1, 2 * pair + 2)?;
     }
+    Ok(())
 }

@@ -5,10 +5,10 @@ use borrow.Author.Rules.{rules}
 use Rattle.call_vectors.proofs.decimal.Statement.{statement}
 use Rattle.call_vectors.proofs.decimal.Tie as tie
 
-abbrev invariant-loop : tie.invariant-loop
+abbrev invariant-loop : tie.invariant-loop-i
 invariant-loop text value₀ i₀ value i = value < 100000
 
-abbrev decreases-loop : tie.decreases-loop
+abbrev decreases-loop : tie.decreases-loop-i
 decreases-loop text value₀ i₀ value i = length text - i
 
 pub decimal_spec : {M : Type 1} → statement M

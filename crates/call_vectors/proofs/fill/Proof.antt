@@ -6,10 +6,10 @@ use borrow.Author.Rules.{rules}
 use Rattle.call_vectors.proofs.fill.Statement.{statement}
 use Rattle.call_vectors.proofs.fill.Tie as tie
 
-abbrev invariant-loop : tie.invariant-loop
+abbrev invariant-loop : tie.invariant-loop-i
 invariant-loop buffer₀ i₀ buffer i = length buffer ≡ length buffer₀
 
-abbrev decreases-loop : tie.decreases-loop
+abbrev decreases-loop : tie.decreases-loop-i
 decreases-loop buffer₀ i₀ buffer i = length buffer₀ - i
 
 pub fill_spec : {M : Type 1} → statement M

@@ -5,10 +5,10 @@ use borrow.Author.Rules.{rules}
 use Rattle.call_vectors.proofs.is_as_filled.Statement.{statement}
 use Rattle.call_vectors.proofs.is_as_filled.Tie as tie
 
-abbrev invariant-loop : tie.invariant-loop
+abbrev invariant-loop : tie.invariant-loop-i
 invariant-loop buffer i₀ i = i ≤ length buffer
 
-abbrev decreases-loop : tie.decreases-loop
+abbrev decreases-loop : tie.decreases-loop-i
 decreases-loop buffer i₀ i = length buffer - i
 
 pub is_as_filled_spec : {M : Type 1} → statement M

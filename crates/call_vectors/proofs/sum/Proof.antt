@@ -5,10 +5,10 @@ use borrow.Author.Rules.{rules}
 use Rattle.call_vectors.proofs.sum.Statement.{statement}
 use Rattle.call_vectors.proofs.sum.Tie as tie
 
-abbrev invariant-loop : tie.invariant-loop
+abbrev invariant-loop : tie.invariant-loop-i
 invariant-loop buffer sum₀ i₀ sum i = sum < 72057594037927931
 
-abbrev decreases-loop : tie.decreases-loop
+abbrev decreases-loop : tie.decreases-loop-i
 decreases-loop buffer sum₀ i₀ sum i = length buffer - i
 
 pub sum_spec : {M : Type 1} → statement M
