@@ -4,8 +4,6 @@ use Prim.Native.Nat.{ℕ}
 use mathlib.Core.Path.{◌≡◌, refl, sym}
 use mathlib.Core.List.{List, []}
 use contract.Lifetimes.{Lfts}
-use denote.MutBor.{MutBor}
-use denote.Ref.{Bor}
 use Rattle.meaning.specs.declared.Answer.{Answer}
 use Rattle.writing.specs.Lent.{Lent, Leaves}
 use Rattle.convert.specs.Convert.{shredded, rebuilt}
