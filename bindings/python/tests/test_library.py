@@ -22,7 +22,7 @@ class Library(unittest.TestCase):
         last = done.stderr.splitlines()[-1]
         self.assertEqual(done.returncode, 1)
         self.assertTrue(last.startswith("ImportError: "), last)
-        for word in (repr(path), "set TRAMMELBUD_SO", "rt staticlib", "bindings/python/test"):
+        for word in (repr(path), "set TRAMMELBUD_SO", "tools/build", "bindings/python/test"):
             self.assertIn(word, last)
 
     def test_a_missing_library(self) -> None:

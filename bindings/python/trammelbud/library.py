@@ -57,7 +57,7 @@ def _load() -> ctypes.CDLL:
     except (OSError, AttributeError) as error:
         raise ImportError(
             f"no shared library of Trammelbud at {path!r} ({error}): set TRAMMELBUD_SO to its "
-            "path; `rt staticlib trammelbud`, then `bash bindings/python/test` build it as "
+            "path; `bash tools/build`, then `bash bindings/python/test` build it as "
             "target/python/libtrammelbud.so"
         ) from error
 

@@ -63,11 +63,11 @@ fn sum(buffer: &[u8]) -> u64 {
     sum
 }
 
-fn state(buffer: &[u8]) -> &'static str {
+fn print_state(rt: &impl Print, buffer: &[u8]) -> io::Result<()> {
     if is_as_filled(buffer) {
-        "same"
+        print!(rt; " same ")
     } else {
-        "changed"
+        print!(rt; " changed ")
     }
 }
 
@@ -79,16 +79,17 @@ fn print_bytes(rt: &impl Print, bytes: &[u8]) -> io::Result<()> {
 }
 
 fn print_out(rt: &impl Print, out: &[u8]) -> io::Result<()> {
-    let state = state(out);
-    print!(rt; "out {state} ")?;
+    print!(rt; "out")?;
+    print_state(rt, out)?;
     print_bytes(rt, out)?;
     println!(rt; "")
 }
 
 fn print_work(rt: &impl Print, work: &[u8]) -> io::Result<()> {
-    let state = state(work);
+    print!(rt; "work")?;
+    print_state(rt, work)?;
     let sum = sum(work);
-    println!(rt; "work {state} {sum:014x}")
+    println!(rt; "{sum:014x}")
 }
 
 fn print_answer(rt: &impl Print, name: &[u8], answer: Answer) -> io::Result<()> {

@@ -1,0 +1,2 @@
+-- That the exports promise what the library does.
+pub mod Exported
