@@ -13,6 +13,7 @@ LEMMAS = {name: name.replace("-", "_") + "_lem" for name in (
     "child-kind document-file document-read graph-file graph-read is-element is-parent program-bytes program-file "
     "program-read query-file query-read step-read steps-bytes steps-in tables-file tables-read text-is turned-away").split()}
 LEMMAS["documentLength"] = "length_of_document"
+LEMMAS["tablesLength"] = "length_of_tables"
 # The kit's script has spelled these lemmas already, each in the files that name it, as a definition is spelled now.
 SPELLED = {"mask_below": ("meaning", "kinds", "descent", "masks"), "row_read": ("rows", "rooms"), "step_count": ("meaning",)}
 # What a call may answer and leave is a fact, and what Rattle reads off its contract a module: both in camel case.
@@ -31,17 +32,14 @@ def antt():
 
 
 def declared():
-    """Each name that a file declares, and whether it is a type or a fact, whose capital stays."""
+    """Each name that a file declares: a definition, a lemma, a field or a constructor. Rattle names invariants and measures."""
     names = set()
+    modifiers = r"^\s*(?:unfoldable |abbrev |pub )*"
     for file in antt():
-        for line in file.read_text().split("\n"):
-            found = re.match(r"^(?:unfoldable |abbrev |pub |open |mutual )*(?:data|record|ruleset)?\s*(?:pub )?([^\s:(){}]+)\s*(?=[:({]|$|=|where)", line)
-            if found and ("pub" in line.split(":")[0] or re.match(r"^[^\s]+ :", line)):
-                names.add(found.group(1))
-            found = re.match(r"^\s+(?:pub )?([^\s:(){}]+) :", line)
-            if found:
-                names.add(found.group(1))
-    return names
+        text = file.read_text()
+        names.update(re.findall(modifiers + r"(?:data|record|ruleset) (?:pub )?([^\s:(){}=]+)", text, re.M))
+        names.update(re.findall(modifiers + r"([^\s:(){}=]+) :", text, re.M))
+    return {name for name in names if not re.match("(invariant|decreases)-", name)}
 
 
 def camel(name):
@@ -80,8 +78,8 @@ def main():
                 text = re.sub(rf"(?<![\w'\-.]){lemma}(?!{WORD}|\.)", lemma + "_lem", text)
         if crate == "trammelbud":
             for call in CALLS:
-                text = re.sub(rf"(?<=\.Reads as ){call}$", camel(call), text, flags=re.M)
-                text = re.sub(rf"(?<!{WORD}){call}(?=\.(Post|Pre)\b)", camel(call), text)
+                text = re.sub(rf"(?<=\.Reads as ){call}$", camel(call) + "Call", text, flags=re.M)
+                text = re.sub(rf"(?<!{WORD}){call}(?=\.(Post|Pre)\b)", camel(call) + "Call", text)
         file.write_text(respelled(text, names).replace("specs.inside", "specs.Inside"))
     for file in sorted(TOP.glob("crates/*/src/**/*.rt")) + sorted(TOP.glob("crates/*/must-fail/*.edit")):
         file.write_text(respelled(file.read_text(), names).replace("specs.inside", "specs.Inside"))

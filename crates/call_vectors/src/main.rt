@@ -6,10 +6,10 @@
 ghost use Rattle.std.specs.Prelude.{◌≡◌, ◌+◌, ◌<◌, ◌≤◌, ◌^◌, length, take};
 
 use announce::Checked;
-use loading::load;
+use loading::{argument, is_there, load};
 use masks::Announced;
 use meaning::Answer;
-use std::env::{Env, FillError};
+use std::env::Env;
 use std::fs::Files;
 use std::io;
 
@@ -222,17 +222,6 @@ fn make(
         b'n' | b'l' | b's' => lend_two(rt, name, gra, second, third, out_room, work_room),
         _ => lend_one(rt, name, gra, second, out_room),
     }
-}
-
-// An argument, and how long it is; one that is missing or too long counts as empty.
-fn argument(rt: &impl Env, at: usize, buffer: &mut [u8]) -> usize
-    ensures { result ≤ length buffer.new }
-{
-    rt.arg(at, buffer).unwrap_or(0)
-}
-
-fn is_there(rt: &impl Env, argument: usize) -> bool {
-    !matches!(rt.arg(argument, &mut [0; 0]), Err(FillError::NotPresent))
 }
 
 fn digit(glyph: u8) -> u32

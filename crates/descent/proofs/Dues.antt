@@ -79,9 +79,9 @@ module _ {g : Graph} {s : List ℕ} {n : ℕ} {from : Place} (d : Due g s n from
   first_falls e = omega (arith, due_inside)
 
 -- A part that stands where another was due before is due there too.
-abbrev due-part : {g : Graph} {s : List ℕ} {room n : ℕ} {from : Place} → Due g s room from → (to : Place) (p : Part g.k) (rest : List ℕ)
+abbrev due_part : {g : Graph} {s : List ℕ} {room n : ℕ} {from : Place} → Due g s room from → (to : Place) (p : Part g.k) (rest : List ℕ)
     → drop to.at s ≡ bytes_of p ++ rest → to.kinds < 2 ^ kinds → StepsFit (weight p) n to.steps → Due g s n to
-due-part d to p rest S k r = record { graph = d.graph; short = d.short; kinds = k; part = p; rest = rest; stands = S; enough = r }
+due_part d to p rest S k r = record { graph = d.graph; short = d.short; kinds = k; part = p; rest = rest; stands = S; enough = r }
 
 -- No part.
 module _ {g : Graph} {s : List ℕ} {from : Place} {row : Row} (r : row ≡ row_of (get_or s from.at 0)) (leaf : Leaf) (e : row ≡ Row.Leaf leaf) where
@@ -118,7 +118,7 @@ module _ {g : Graph} {s : List ℕ} {from : Place} {row : Row} (r : row ≡ row_
   one_due d =
       let F = single d in
       let A = F.fact in
-      due-part d (ahead from) A.inner d.rest (F.behind ∙ ap (λ l. l ++ d.rest) A.bytes) d.kinds (room_less d.enough (omega (arith, A.counts)) refl)
+      due_part d (ahead from) A.inner d.rest (F.behind ∙ ap (λ l. l ++ d.rest) A.bytes) d.kinds (room_less d.enough (omega (arith, A.counts)) refl)
 
   module _ {old x : List ℕ} {inner : Place} (L : Done g s old x (ahead from) inner) where
     inner_goes : (d : Due g s (length old) from) → let A = (single d).fact in
@@ -155,7 +155,7 @@ module _ {g : Graph} {s : List ℕ} {from : Place} {row : Row} (r : row ≡ row_
       let F = pair d in
       let A = F.fact in
       let right = bytes_of A.right in
-      due-part d (ahead from) A.left (right ++ d.rest)
+      due_part d (ahead from) A.left (right ++ d.rest)
       (F.behind ∙ ap (λ l. l ++ d.rest) A.bytes ∙ append_assoc (bytes_of A.left) right d.rest) d.kinds (room_less d.enough (omega (arith, A.counts)) refl)
 
   module _ {old x : List ℕ} {left : Place} (L : Done g s old x (ahead from) left) where
@@ -189,7 +189,7 @@ module _ {g : Graph} {s : List ℕ} {from : Place} {row : Row} (r : row ≡ row_
       right_due d h =
           let A = (pair d).fact in
           let G = left_goes d in
-          due-part d begun A.right d.rest
+          due_part d begun A.right d.rest
           (ap (λ i. drop i s) (B.at ∙ G.at) ∙ past s (from.at + 1) (bytes_of A.left) (two_due d).stands)
           (rw B.kinds (under_small second g from.kinds left.kinds d.kinds (left_small d)))
           (room_less d.enough (omega (arith, G.steps, B.steps, A.counts)) (h ∙ B.same ∙ G.same))

@@ -70,23 +70,23 @@ upto_all F {n} u l = let e : n ≡ kinds = omega (arith, u.most) in u.is ∙ ap 
 
 module _ (rows : ℕ → ℕ) (set : ℕ) where
   -- what the rows of the kinds below n have that are in the set
-  unfoldable pub imageUpto : ℕ → ℕ → Bool
-  imageUpto n B = any n (λ A. bit set A && bit (rows A) B)
+  unfoldable pub image_upto : ℕ → ℕ → Bool
+  image_upto n B = any n (λ A. bit set A && bit (rows A) B)
 
-  pub image_none : Upto imageUpto 0 (bit 0)
-  unfolding imageUpto any
+  pub image_none : Upto image_upto 0 (bit 0)
+  unfolding image_upto any
   image_none = record { most = omega arith; is = fun_ext bit_none }
 
-  pub image_more : {n : ℕ} (found row next : ℕ) → Upto imageUpto n (bit found) → n < kinds → row ≡ rows n → next ≡ cond (bit set n) row 0
-      → Upto imageUpto (n + 1) (bit (bit_or next found))
-  unfolding imageUpto any
+  pub image_more : {n : ℕ} (found row next : ℕ) → Upto image_upto n (bit found) → n < kinds → row ≡ rows n → next ≡ cond (bit set n) row 0
+      → Upto image_upto (n + 1) (bit (bit_or next found))
+  unfolding image_upto any
   image_more {n} found row next u l q e = record {
     most = omega arith;
     is = fun_ext λ B. bit_or_lem B next found ∙ simp (e, q, ap (λ f. f B) u.is, add-one, chosen_bits (bit set n) (rows n) B);
   }
 
-pub image_all : (r : Relation) (c found : ℕ) {n : ℕ} → Upto (imageUpto (λ A. mask kinds (r A)) c) n (bit found) → kinds ≤ n → found ≡ image r c
-unfolding imageUpto image
+pub image_all : (r : Relation) (c found : ℕ) {n : ℕ} → Upto (image_upto (λ A. mask kinds (r A)) c) n (bit found) → kinds ≤ n → found ≡ image r c
+unfolding image_upto image
 image_all r c found u l =
     let done : (B : ℕ) → bit found B ≡ any kinds (λ A. bit c A && bit (mask kinds (r A)) B) = λ B. ap (λ f. f B) (upto_all _ u l) in
     sym (mask_bits kinds found (below_bits kinds found (λ B h. any_out kinds _ (λ A a e. mask_below_lem kinds (r A) B (and_right (bit c A) _ e)) (sym (done B) ∙ h))))
@@ -111,19 +111,19 @@ module _ (r : Relation) (c : ℕ) where
     reached = bit_or c (rounds k)
 
     -- one step, or one more than k at most, lead from A to B
-    abbrev more-rounds : ℕ → Bool
-    more-rounds A = r A B || any kinds (λ u. r u B && within k kinds r A u)
+    abbrev more_rounds : ℕ → Bool
+    more_rounds A = r A B || any kinds (λ u. r u B && within k kinds r A u)
 
-    one_more : any kinds (λ A. bit reached A && r A B) ≡ any kinds (λ A. bit c A && more-rounds A)
+    one_more : any kinds (λ A. bit reached A && r A B) ≡ any kinds (λ A. bit c A && more_rounds A)
     unfolding rounds
     one_more =
         same _ _
         (both_out kinds (bit reached) (λ A. r A B) (λ A a p e. or_out (bit c A) (bit (rounds k) A)
-        (λ q. both_in kinds (bit c) more-rounds A a q (or_left (r A B) _ e))
+        (λ q. both_in kinds (bit c) more_rounds A a q (or_left (r A B) _ e))
         (image_out (within k kinds r) c A (λ v l q w.
-        both_in kinds (bit c) more-rounds v l q (or_right (r v B) _ (both_in kinds (λ u. r u B) (within k kinds r v) A a e w))))
+        both_in kinds (bit c) more_rounds v l q (or_right (r v B) _ (both_in kinds (λ u. r u B) (within k kinds r v) A a e w))))
         (sym (bit_or_lem A c (rounds k)) ∙ p)))
-        (both_out kinds (bit c) more-rounds (λ A a p. or_out (r A B) _ (last A a (or_left (bit c A) _ p))
+        (both_out kinds (bit c) more_rounds (λ A a p. or_out (r A B) _ (last A a (or_left (bit c A) _ p))
         (both_out kinds (λ u. r u B) (within k kinds r A) (λ u l e w. last u l (or_right (bit c u) _ (image_in (within k kinds r) c A u a l p w)) e))))
       where
         last : (u : ℕ) → u < kinds → bit c u || bit (rounds k) u ≡ true → r u B ≡ true → any kinds (λ A. bit reached A && r A B) ≡ true

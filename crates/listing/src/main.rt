@@ -46,7 +46,7 @@ fn listed(gra: &[u8], edg: &[u8], qry: &[u8], text: &mut [u8], work: &mut [u8]) 
 
 // No file of 1,024 bytes is accepted: a graph has at most 39, tables 530, a query fewer than 78. So a longer file is judged
 // by its first 1,024 bytes as the whole of it would be.
-fn main(rt: HostRuntime) -> io::Result<()> {
+fn main(rt: HostRuntime) {
     let mut gra = [0u8; 1024];
     let g = load(&rt, b"graph.gra", &mut gra);
     let mut edg = [0u8; 1024];
@@ -56,5 +56,6 @@ fn main(rt: HostRuntime) -> io::Result<()> {
     let mut listing = [0u8; TEXT];
     let mut work = [0u8; WORK];
     let answer = listed(&gra[..g], &edg[..e], &qry[..q], &mut listing, &mut work);
-    print(&rt, answer, &listing)
+    // Whether the output took it or not, the program ends with status 0.
+    let _ = print(&rt, answer, &listing);
 }

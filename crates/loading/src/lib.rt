@@ -1,8 +1,9 @@
-// Files, as the programs take them.
+// Files and arguments, as the programs take them.
 #![tactic(auto)]
 
 ghost use Rattle.std.specs.Prelude.{◌≡◌, ◌≤◌, length, take};
 
+use std::env::{Env, FillError};
 use std::fs;
 use std::fs::Files;
 use std::io::Read;
@@ -33,4 +34,16 @@ pub fn load<R: Files>(rt: &R, name: &[u8], buffer: &mut [u8]) -> usize
         Ok(mut file) => fill(&mut file, buffer),
         Err(_) => 0,
     }
+}
+
+// An argument, and how long it is; one that is missing or too long counts as empty.
+pub fn argument(rt: &impl Env, at: usize, buffer: &mut [u8]) -> usize
+    ensures { result ≤ length buffer.new }
+{
+    rt.arg(at, buffer).unwrap_or(0)
+}
+
+// Whether there is such an argument; the list of them ends at the first that is missing.
+pub fn is_there(rt: &impl Env, argument: usize) -> bool {
+    !matches!(rt.arg(argument, &mut [0; 0]), Err(FillError::NotPresent))
 }

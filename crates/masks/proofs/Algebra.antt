@@ -20,7 +20,7 @@ use Rattle.meaning.proofs.Tests.{never, and_left, and_right, and_where, and_impl
 use Rattle.meaning.proofs.Sets.{any_out, any_cong, bit_mask, bit_none}
 use Rattle.meaning.proofs.Bits.{bit_or_lem, bit_and_lem, bit_single}
 use Rattle.meaning.proofs.Lists.{table_at}
-use Rattle.kinds.proofs.KindMasks.{Upto, upto_all, imageUpto, image_none, image_more}
+use Rattle.kinds.proofs.KindMasks.{Upto, upto_all, image_upto, image_none, image_more}
 use Rattle.masks.specs.declared.Announced.{Announced}
 use Rattle.masks.specs.declared.Mix.{Mix}
 use Rattle.masks.specs.declared.Mix.TheVariants.{Either, Both, Joined}
@@ -83,8 +83,8 @@ module _ (a b : Announced) (k : length a.pairs ≡ kinds) (l : length b.pairs �
   pub mixture_from : (how : Mix) → FromKinds (mixture how (rel_of a) (rel_of b))
   mixture_from how = record { from = starts how }
 
-pub image_shown : (set : ℕ) (a : Announced) (r : ℕ) {i : ℕ} → Upto (imageUpto (λ K. get_or a.pairs K 0) set) i (bit r) → kinds ≤ i → bit r ≡ image_of (rel_of a) (bit set)
-unfolding imageUpto image_of rel_of
+pub image_shown : (set : ℕ) (a : Announced) (r : ℕ) {i : ℕ} → Upto (image_upto (λ K. get_or a.pairs K 0) set) i (bit r) → kinds ≤ i → bit r ≡ image_of (rel_of a) (bit set)
+unfolding image_upto image_of rel_of
 image_shown set a r u l = upto_all _ u l
 
 module _ (a : Announced) where

@@ -22,7 +22,7 @@ use Rattle.meaning.proofs.Closure.{closure_sound, closure_complete, steps_map}
 use Rattle.meaning.proofs.Views.{Lawful, parent_element, element_there, below_steps, steps_below}
 use Rattle.meaning.proofs.KindSets.{only_bit}
 use Rattle.meaning.proofs.NodeKinds.{some_in, some_out, kind_small, child_kinds, below_kinds, deep_kinds, out_kinds}
-use Rattle.meaning.proofs.Runs.{Longer, longer_step, last_new, OnNodes, run_keep, lastResult, step_result, run_nodes}
+use Rattle.meaning.proofs.Runs.{Longer, longer_step, last_new, OnNodes, run_keep, last_result, step_result, run_nodes}
 use Rattle.meaning.proofs.Counts.{both_longer, then_longer}
 
 -- r and s have the same rows to nodes, from wherever S holds
@@ -32,7 +32,7 @@ Same d S r s = (v w : ℕ) → S v → d.there w ≡ true → r v w ≡ s v w
 -- whatever program a adds to, it adds steps, and the last one's rows from S are those of r
 record Makes (d : View) (S : ℕ → Type 0) (a : Adds) (r : Relation) : Type 0 where
   longer : (os : List Operation) → Longer os (a os)
-  made : (os : List Operation) → Same d S (lastResult d (a os)) r
+  made : (os : List Operation) → Same d S (last_result d (a os)) r
 
 module _ (g : Graph) (d : View) (keeps : Lawful g d) where
   -- a search over all numbers finds what one over the nodes does, where only nodes can pass

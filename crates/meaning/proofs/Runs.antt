@@ -59,10 +59,10 @@ module _ (d : View) where
       ∙ ap (λ l. at l s) (results_append (rows d) [] os a.added)
       ∙ results_keep (rows d) (run d os) a.added s (omega (arith, run_length os))
 
-  abbrev pub lastResult : List Operation → Relation
-  lastResult os = at (run d os) (last os)
+  abbrev pub last_result : List Operation → Relation
+  last_result os = at (run d os) (last os)
 
-  pub step_result : (o : Operation) (os : List Operation) → lastResult (step o os) ≡ rows d (run d os) o
+  pub step_result : (o : Operation) (os : List Operation) → last_result (step o os) ≡ rows d (run d os) o
   unfolding run step last
   step_result o os =
       ap (λ l. at l (length (os ++ (o ∷ [])) - 1)) (results_append (rows d) [] os (o ∷ []))

@@ -39,8 +39,8 @@ pub refused_so : (f : Field) {o : Outcome} → o ≡ outcome_of (read_of f) → 
 refused_so f e = simp (e, no_steps)
 
 -- a program with one more step
-abbrev addedTo : Program → Operation → Program
-addedTo p o = record { count = p.count + 1; steps = set p.steps p.count (record { number = p.count; operation = o }) }
+abbrev added_to : Program → Operation → Program
+added_to p o = record { count = p.count + 1; steps = set p.steps p.count (record { number = p.count; operation = o }) }
 
 -- what m reads after the operations os, and then the end
 abbrev after : List Operation → Reader (List Operation) → Reader (List Operation)
@@ -63,7 +63,7 @@ steps_append n (p ∷ os) o =
     ap (λ l. record { number = n; operation = p } ∷ l)
     (steps_append (suc n) os o ∙ ap (λ (i : ℕ). steps_from (suc n) os ++ (record { number = i; operation = o } ∷ [])) (omega arith))
 
-more_steps : (os : List Operation) (o : Operation) → length os < step_limit → addedTo (program_of os) o ≡ program_of (os ++ (o ∷ []))
+more_steps : (os : List Operation) (o : Operation) → length os < step_limit → added_to (program_of os) o ≡ program_of (os ++ (o ∷ []))
 unfolding program_of
 more_steps os o l =
     let m = step_limit - suc (length os) in
@@ -100,13 +100,13 @@ module _ (s : List ℕ) (k count from : ℕ) where
       unfolding steps_read
       upto_stop q i = i ∙ simp (q, next, beside_refused o h q)
 
-      pub upto_step : {v : ℕ} {c : Cursor} {q : Program} → f ≡ Got v c → count ≤ step_limit → q ≡ addedTo p o → Upto s k count from q c.at
+      pub upto_step : {v : ℕ} {c : Cursor} {q : Program} → f ≡ Got v c → count ≤ step_limit → q ≡ added_to p o → Upto s k count from q c.at
       unfolding steps_read
       upto_step {c = c} {q = q} i m e =
           let now : q.count ≡ suc p.count = ap (λ (x : Program). x.count) e ∙ add-one p.count in
           record {
             done = u.done ++ (o ∷ []);
-            held = e ∙ ap (λ (x : Program). addedTo x o) u.held ∙ more_steps u.done o (omega (arith, counted));
+            held = e ∙ ap (λ (x : Program). added_to x o) u.held ∙ more_steps u.done o (omega (arith, counted));
             most = omega arith;
             rest = next ∙ simp (beside_got o h i, now) (regroup u.done o s (steps_read k (suc p.count) (count - suc p.count) s c.at));
           }

@@ -2,11 +2,9 @@
 // what the reader of its kind answers.
 #![tactic(auto)]
 
-ghost use Rattle.std.specs.Prelude.{◌≤◌, length};
-
-use loading::load;
+use loading::{argument, is_there, load};
 use meaning::Answer;
-use std::env::{Env, FillError};
+use std::env::Env;
 use std::fs::Files;
 use std::io;
 
@@ -41,17 +39,6 @@ fn judge(rt: &(impl Files + Print), graph: &[u8], name: &[u8]) -> io::Result<()>
     let mut file = [0u8; 1024];
     let n = load(rt, name, &mut file);
     print(rt, name, answer(kind(name), &gra[..g], &file[..n]))
-}
-
-// An argument, and how long it is; one that is missing or too long counts as empty.
-fn argument(rt: &impl Env, at: usize, buffer: &mut [u8]) -> usize
-    ensures { result ≤ length buffer.new }
-{
-    rt.arg(at, buffer).unwrap_or(0)
-}
-
-fn is_there(rt: &impl Env, argument: usize) -> bool {
-    !matches!(rt.arg(argument, &mut [0; 0]), Err(FillError::NotPresent))
 }
 
 fn judge_pair(rt: &(impl Env + Files + Print), first: usize, second: usize) -> io::Result<()> {

@@ -23,8 +23,8 @@ use Rattle.writing.proofs.Stored.{stored_none, stored_all}
 use Rattle.shredder.specs.Inside.RowsFit.{HeldUnder, RowsFit}
 
 -- the bytes of the tables of n elements under k types
-abbrev tablesLength : ℕ → ℕ → ℕ
-tablesLength k n = 6 + k + 4 * n
+abbrev length_of_tables : ℕ → ℕ → ℕ
+length_of_tables k n = 6 + k + 4 * n
 
 -- a byte for each type, and four for each row
 tabled_length : (es : List Element) (t n : ℕ) → length (tables_of es t n) ≡ n + 4 * length (tabled es t n)
@@ -34,18 +34,18 @@ tabled_length es t (suc n) =
     let rs = rows_of t 1 es in
     omega (arith, tabled_length es (suc t) n, rows_length rs, length-append (rows_bytes rs) (tables_of es (suc t) n), length-append rs (tabled es (suc t) n))
 
-pub tables_length : {limit : ℕ} {g : Graph} {es : List Element} → LegalGraph g → Accepted limit g es → length (tables_bytes g es) ≡ tablesLength g.k (length es)
+pub tables_length : {limit : ℕ} {g : Graph} {es : List Element} → LegalGraph g → Accepted limit g es → length (tables_bytes g es) ≡ length_of_tables g.k (length es)
 unfolding tables_bytes
 tables_length {g = g} {es} legal accepted = omega (arith, tabled_length es 0 g.k, tabled_count legal accepted)
 
 module _ {g : Graph} {kept : List ℕ} {count k : ℕ} (held : HeldUnder g kept count) (types : k ≡ g.k) where
-  file_length : length (tables_bytes g (kept_in kept count)) ≡ tablesLength k count
+  file_length : length (tables_bytes g (kept_in kept count)) ≡ length_of_tables k count
   file_length = tables_length held.legal held.accepted ∙ rw (types, held.long)
 
-  pub no_room : {a : Answer} (out : List ℕ) → length out < tablesLength k count → a ≡ turned_away (record { reason = Room }) → Leaves (stored (tables_bytes g (kept_in kept count)) out) a out
+  pub no_room : {a : Answer} (out : List ℕ) → length out < length_of_tables k count → a ≡ turned_away (record { reason = Room }) → Leaves (stored (tables_bytes g (kept_in kept count)) out) a out
   no_room out l e = rw e (stored_none (tables_bytes g (kept_in kept count)) out (omega (arith, file_length)))
 
-  module _ {old x y : List ℕ} {a b : ℕ} (l : tablesLength k count ≤ length old) (header : Put 0 (header_of 0x45 0x44 0x47 1) old x a) (counted : Put a (byte_of g.k) x y b) where
+  module _ {old x y : List ℕ} {a b : ℕ} (l : length_of_tables k count ≤ length old) (header : Put 0 (header_of 0x45 0x44 0x47 1) old x a) (counted : Put a (byte_of g.k) x y b) where
     pub tables_fit : RowsFit kept count (tables_of (kept_in kept count) 0 g.k) b y
     unfolding tables_bytes
     tables_fit =

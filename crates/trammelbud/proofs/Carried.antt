@@ -12,18 +12,18 @@ use Rattle.rooms.specs.Run.{Ran, Gives}
 use Rattle.runner.specs.Run.{run_of}
 use Rattle.translator.specs.Translate.{translation}
 use Rattle.trammelbud.specs.Calls.{read_graph, read_document, read_tables, read_query, read_program, select_of, list_of}
-use Rattle.trammelbud.proofs.tb_read_graph.Reads as ReadGraph
-use Rattle.trammelbud.proofs.tb_read_document.Reads as ReadDocument
-use Rattle.trammelbud.proofs.tb_read_tables.Reads as ReadTables
-use Rattle.trammelbud.proofs.tb_read_query.Reads as ReadQuery
-use Rattle.trammelbud.proofs.tb_read_program.Reads as ReadProgram
-use Rattle.trammelbud.proofs.tb_shred.Reads as Shred
-use Rattle.trammelbud.proofs.tb_rebuild.Reads as Rebuild
-use Rattle.trammelbud.proofs.tb_translate.Reads as Translate
-use Rattle.trammelbud.proofs.tb_check.Reads as Check
-use Rattle.trammelbud.proofs.tb_run.Reads as Run
-use Rattle.trammelbud.proofs.tb_select.Reads as Select
-use Rattle.trammelbud.proofs.tb_list.Reads as List
+use Rattle.trammelbud.proofs.tb_read_graph.Reads as ReadGraphCall
+use Rattle.trammelbud.proofs.tb_read_document.Reads as ReadDocumentCall
+use Rattle.trammelbud.proofs.tb_read_tables.Reads as ReadTablesCall
+use Rattle.trammelbud.proofs.tb_read_query.Reads as ReadQueryCall
+use Rattle.trammelbud.proofs.tb_read_program.Reads as ReadProgramCall
+use Rattle.trammelbud.proofs.tb_shred.Reads as ShredCall
+use Rattle.trammelbud.proofs.tb_rebuild.Reads as RebuildCall
+use Rattle.trammelbud.proofs.tb_translate.Reads as TranslateCall
+use Rattle.trammelbud.proofs.tb_check.Reads as CheckCall
+use Rattle.trammelbud.proofs.tb_run.Reads as RunCall
+use Rattle.trammelbud.proofs.tb_select.Reads as SelectCall
+use Rattle.trammelbud.proofs.tb_list.Reads as ListCall
 use Rattle.trammelbud.proofs.Outcomes.{Slice, Buffer, Slices1, Slices2, Slices3, Slices5, OnGraph, OnFile, Writing, Running, TbReadGraph, TbReadDocument, TbReadTables, TbReadQuery, TbReadProgram, TbShred, TbRebuild, TbTranslate, TbCheck, TbRun, TbSelect, TbList, AsksNothing}
 
 -- the outcome is this one: it is allowed, and no other is
@@ -115,40 +115,40 @@ running Post e says meets gra edg file out work =
 
 -- the twelve calls
 pub read_graph_is : (gra : List ℕ) → Is (TbReadGraph gra) (read_graph gra)
-read_graph_is = on_graph ReadGraph.Post read_graph (λ κs g a p. p) (λ κs g. refl)
+read_graph_is = on_graph ReadGraphCall.Post read_graph (λ κs g a p. p) (λ κs g. refl)
 
 pub read_document_is : (gra file : List ℕ) → Is (TbReadDocument gra file) (read_document gra file)
-read_document_is = on_file ReadDocument.Post read_document (λ κs g f a p. p) (λ κs g f. refl)
+read_document_is = on_file ReadDocumentCall.Post read_document (λ κs g f a p. p) (λ κs g f. refl)
 
 pub read_tables_is : (gra file : List ℕ) → Is (TbReadTables gra file) (read_tables gra file)
-read_tables_is = on_file ReadTables.Post read_tables (λ κs g f a p. p) (λ κs g f. refl)
+read_tables_is = on_file ReadTablesCall.Post read_tables (λ κs g f a p. p) (λ κs g f. refl)
 
 pub read_query_is : (gra file : List ℕ) → Is (TbReadQuery gra file) (read_query gra file)
-read_query_is = on_file ReadQuery.Post read_query (λ κs g f a p. p) (λ κs g f. refl)
+read_query_is = on_file ReadQueryCall.Post read_query (λ κs g f a p. p) (λ κs g f. refl)
 
 pub read_program_is : (gra file : List ℕ) → Is (TbReadProgram gra file) (read_program gra file)
-read_program_is = on_file ReadProgram.Post read_program (λ κs g f a p. p) (λ κs g f. refl)
+read_program_is = on_file ReadProgramCall.Post read_program (λ κs g f a p. p) (λ κs g f. refl)
 
 pub check_is : (gra file : List ℕ) → Is (TbCheck gra file) (check_of gra file)
-check_is = on_file Check.Post check_of (λ κs g f a p. p) (λ κs g f. refl)
+check_is = on_file CheckCall.Post check_of (λ κs g f a p. p) (λ κs g f. refl)
 
 pub shred_is : (gra file out : List ℕ) → Is (TbShred gra file out) (shredded gra file out)
-shred_is = writing Shred.Post shredded (λ κs g f b x a p. p) (λ κs g f b x a p. p)
+shred_is = writing ShredCall.Post shredded (λ κs g f b x a p. p) (λ κs g f b x a p. p)
 
 pub rebuild_is : (gra file out : List ℕ) → Is (TbRebuild gra file out) (rebuilt gra file out)
-rebuild_is = writing Rebuild.Post rebuilt (λ κs g f b x a p. p) (λ κs g f b x a p. p)
+rebuild_is = writing RebuildCall.Post rebuilt (λ κs g f b x a p. p) (λ κs g f b x a p. p)
 
 pub translate_is : (gra file out : List ℕ) → Is (TbTranslate gra file out) (translation gra file out)
-translate_is = writing Translate.Post translation (λ κs g f b x a p. p) (λ κs g f b x a p. p)
+translate_is = writing TranslateCall.Post translation (λ κs g f b x a p. p) (λ κs g f b x a p. p)
 
 pub run_is : (gra edg file out work : List ℕ) → Is (TbRun gra edg file out work) (run_of gra edg file out work)
-run_is = running Run.Post run_of (λ κs g t f b w x y a p. p) (λ κs g t f b w x y a p. p)
+run_is = running RunCall.Post run_of (λ κs g t f b w x y a p. p) (λ κs g t f b w x y a p. p)
 
 pub select_is : (gra edg file out work : List ℕ) → Is (TbSelect gra edg file out work) (select_of gra edg file out work)
-select_is = running Select.Post select_of (λ κs g t f b w x y a p. p) (λ κs g t f b w x y a p. p)
+select_is = running SelectCall.Post select_of (λ κs g t f b w x y a p. p) (λ κs g t f b w x y a p. p)
 
 pub list_is : (gra edg file out work : List ℕ) → Is (TbList gra edg file out work) (list_of gra edg file out work)
-list_is = running List.Post list_of (λ κs g t f b w x y a p. p) (λ κs g t f b w x y a p. p)
+list_is = running ListCall.Post list_of (λ κs g t f b w x y a p. p) (λ κs g t f b w x y a p. p)
 
 pub asks_nothing : AsksNothing
 asks_nothing = record {

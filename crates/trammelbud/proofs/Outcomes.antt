@@ -8,18 +8,18 @@ use Rattle.meaning.specs.declared.Answer.{Answer}
 use Rattle.writing.specs.Lent.{Lent}
 use Rattle.announce.specs.declared.Checked.{Checked}
 use Rattle.rooms.specs.Run.{Ran}
-use Rattle.trammelbud.proofs.tb_read_graph.Reads as ReadGraph
-use Rattle.trammelbud.proofs.tb_read_document.Reads as ReadDocument
-use Rattle.trammelbud.proofs.tb_read_tables.Reads as ReadTables
-use Rattle.trammelbud.proofs.tb_read_query.Reads as ReadQuery
-use Rattle.trammelbud.proofs.tb_read_program.Reads as ReadProgram
-use Rattle.trammelbud.proofs.tb_shred.Reads as Shred
-use Rattle.trammelbud.proofs.tb_rebuild.Reads as Rebuild
-use Rattle.trammelbud.proofs.tb_translate.Reads as Translate
-use Rattle.trammelbud.proofs.tb_check.Reads as Check
-use Rattle.trammelbud.proofs.tb_run.Reads as Run
-use Rattle.trammelbud.proofs.tb_select.Reads as Select
-use Rattle.trammelbud.proofs.tb_list.Reads as List
+use Rattle.trammelbud.proofs.tb_read_graph.Reads as ReadGraphCall
+use Rattle.trammelbud.proofs.tb_read_document.Reads as ReadDocumentCall
+use Rattle.trammelbud.proofs.tb_read_tables.Reads as ReadTablesCall
+use Rattle.trammelbud.proofs.tb_read_query.Reads as ReadQueryCall
+use Rattle.trammelbud.proofs.tb_read_program.Reads as ReadProgramCall
+use Rattle.trammelbud.proofs.tb_shred.Reads as ShredCall
+use Rattle.trammelbud.proofs.tb_rebuild.Reads as RebuildCall
+use Rattle.trammelbud.proofs.tb_translate.Reads as TranslateCall
+use Rattle.trammelbud.proofs.tb_check.Reads as CheckCall
+use Rattle.trammelbud.proofs.tb_run.Reads as RunCall
+use Rattle.trammelbud.proofs.tb_select.Reads as SelectCall
+use Rattle.trammelbud.proofs.tb_list.Reads as ListCall
 
 -- a file as a call is handed it: where it lies, and what its bytes are `now`
 abbrev pub Slice : Type 0
@@ -92,52 +92,52 @@ pub record Running (Post : Lfts 5 → Slices5 → Answer → Slices5 → Type 0)
 
 -- the twelve calls
 abbrev pub TbReadGraph : List ℕ → Answer → Type 0
-TbReadGraph = OnGraph ReadGraph.Post
+TbReadGraph = OnGraph ReadGraphCall.Post
 
 abbrev pub TbReadDocument : List ℕ → List ℕ → Answer → Type 0
-TbReadDocument = OnFile ReadDocument.Post
+TbReadDocument = OnFile ReadDocumentCall.Post
 
 abbrev pub TbReadTables : List ℕ → List ℕ → Answer → Type 0
-TbReadTables = OnFile ReadTables.Post
+TbReadTables = OnFile ReadTablesCall.Post
 
 abbrev pub TbReadQuery : List ℕ → List ℕ → Answer → Type 0
-TbReadQuery = OnFile ReadQuery.Post
+TbReadQuery = OnFile ReadQueryCall.Post
 
 abbrev pub TbReadProgram : List ℕ → List ℕ → Answer → Type 0
-TbReadProgram = OnFile ReadProgram.Post
+TbReadProgram = OnFile ReadProgramCall.Post
 
 abbrev pub TbShred : List ℕ → List ℕ → List ℕ → Lent → Type 0
-TbShred = Writing Shred.Post
+TbShred = Writing ShredCall.Post
 
 abbrev pub TbRebuild : List ℕ → List ℕ → List ℕ → Lent → Type 0
-TbRebuild = Writing Rebuild.Post
+TbRebuild = Writing RebuildCall.Post
 
 abbrev pub TbTranslate : List ℕ → List ℕ → List ℕ → Lent → Type 0
-TbTranslate = Writing Translate.Post
+TbTranslate = Writing TranslateCall.Post
 
 abbrev pub TbCheck : List ℕ → List ℕ → Checked → Type 0
-TbCheck = OnFile Check.Post
+TbCheck = OnFile CheckCall.Post
 
 abbrev pub TbRun : List ℕ → List ℕ → List ℕ → List ℕ → List ℕ → Ran → Type 0
-TbRun = Running Run.Post
+TbRun = Running RunCall.Post
 
 abbrev pub TbSelect : List ℕ → List ℕ → List ℕ → List ℕ → List ℕ → Ran → Type 0
-TbSelect = Running Select.Post
+TbSelect = Running SelectCall.Post
 
 abbrev pub TbList : List ℕ → List ℕ → List ℕ → List ℕ → List ℕ → Ran → Type 0
-TbList = Running List.Post
+TbList = Running ListCall.Post
 
 -- and none of them asks anything of what it is handed
 pub record AsksNothing : Type 0 where
-  pub read_graph : (κs : Lfts 1) (handed : Slices1) → ReadGraph.Pre κs handed
-  pub read_document : (κs : Lfts 2) (handed : Slices2) → ReadDocument.Pre κs handed
-  pub read_tables : (κs : Lfts 2) (handed : Slices2) → ReadTables.Pre κs handed
-  pub read_query : (κs : Lfts 2) (handed : Slices2) → ReadQuery.Pre κs handed
-  pub read_program : (κs : Lfts 2) (handed : Slices2) → ReadProgram.Pre κs handed
-  pub shred : (κs : Lfts 3) (handed : Slices3) → Shred.Pre κs handed
-  pub rebuild : (κs : Lfts 3) (handed : Slices3) → Rebuild.Pre κs handed
-  pub translate : (κs : Lfts 3) (handed : Slices3) → Translate.Pre κs handed
-  pub check : (κs : Lfts 2) (handed : Slices2) → Check.Pre κs handed
-  pub run : (κs : Lfts 5) (handed : Slices5) → Run.Pre κs handed
-  pub select : (κs : Lfts 5) (handed : Slices5) → Select.Pre κs handed
-  pub list : (κs : Lfts 5) (handed : Slices5) → List.Pre κs handed
+  pub read_graph : (κs : Lfts 1) (handed : Slices1) → ReadGraphCall.Pre κs handed
+  pub read_document : (κs : Lfts 2) (handed : Slices2) → ReadDocumentCall.Pre κs handed
+  pub read_tables : (κs : Lfts 2) (handed : Slices2) → ReadTablesCall.Pre κs handed
+  pub read_query : (κs : Lfts 2) (handed : Slices2) → ReadQueryCall.Pre κs handed
+  pub read_program : (κs : Lfts 2) (handed : Slices2) → ReadProgramCall.Pre κs handed
+  pub shred : (κs : Lfts 3) (handed : Slices3) → ShredCall.Pre κs handed
+  pub rebuild : (κs : Lfts 3) (handed : Slices3) → RebuildCall.Pre κs handed
+  pub translate : (κs : Lfts 3) (handed : Slices3) → TranslateCall.Pre κs handed
+  pub check : (κs : Lfts 2) (handed : Slices2) → CheckCall.Pre κs handed
+  pub run : (κs : Lfts 5) (handed : Slices5) → RunCall.Pre κs handed
+  pub select : (κs : Lfts 5) (handed : Slices5) → SelectCall.Pre κs handed
+  pub list : (κs : Lfts 5) (handed : Slices5) → ListCall.Pre κs handed

@@ -3,13 +3,13 @@ use Prim.Native.Nat.{◌-◌}
 use lib.ListN.{get_or}
 use Rattle.meaning.specs.Limits.{kinds}
 use Rattle.meaning.specs.Sets.{bit}
-use Rattle.kinds.proofs.KindMasks.{Upto, imageUpto}
+use Rattle.kinds.proofs.KindMasks.{Upto, image_upto}
 use Rattle.masks.proofs.Algebra.{algebra}
 use Rattle.masks.proofs.image.Statement.{statement}
 use Rattle.masks.proofs.image.Tie as tie
 
 abbrev invariant-loop : tie.invariant-loop-i
-invariant-loop set a r₀ i₀ r i = Upto (imageUpto (λ K. get_or a.pairs K 0) set) i (bit r)
+invariant-loop set a r₀ i₀ r i = Upto (image_upto (λ K. get_or a.pairs K 0) set) i (bit r)
 
 abbrev decreases-loop : tie.decreases-loop-i
 decreases-loop set a r₀ i₀ r i = kinds - i

@@ -24,57 +24,57 @@ use Rattle.query.proofs.+path_qualifier_then_path_then_qualifier.{statement}
 use Rattle.query.proofs.+path_qualifier_then_path_then_qualifier.Tie.{close}
 
 -- What falls: the nodes allowed; behind a first part, one more than it leaves.
-abbrev μ-path : Measures 1 path-kinds.ps ℕ
-μ-path κs a = a.1.1.0
+abbrev μ_path : Measures 1 path-kinds.ps ℕ
+μ_path κs a = a.1.1.0
 
-abbrev μ-qualifier : Measures 1 qualifier-kinds.ps ℕ
-μ-qualifier κs a = a.1.1.0
+abbrev μ_qualifier : Measures 1 qualifier-kinds.ps ℕ
+μ_qualifier κs a = a.1.1.0
 
-abbrev μ-then-path : Measures 1 then-path-kinds.ps ℕ
-μ-then-path κs a = room a.1.0
+abbrev μ_then_path : Measures 1 then-path-kinds.ps ℕ
+μ_then_path κs a = room a.1.0
 
-abbrev μ-then-qualifier : Measures 1 then-qualifier-kinds.ps ℕ
-μ-then-qualifier κs a = room a.1.0
+abbrev μ_then_qualifier : Measures 1 then-qualifier-kinds.ps ℕ
+μ_then_qualifier κs a = room a.1.0
 
 -- What is asked of a call.
-abbrev path-below : ℕ → In 1 path-kinds.ps
-path-below t = and 1 path-kinds.ps (falls 1 path-kinds.ps ◌<◌ μ-path t) path.Pre
+abbrev path_below : ℕ → In 1 path-kinds.ps
+path_below t = and 1 path-kinds.ps (falls 1 path-kinds.ps ◌<◌ μ_path t) path.Pre
 
-abbrev qualifier-below : ℕ → In 1 qualifier-kinds.ps
-qualifier-below t = and 1 qualifier-kinds.ps (falls 1 qualifier-kinds.ps ◌<◌ μ-qualifier t) qualifier.Pre
+abbrev qualifier_below : ℕ → In 1 qualifier-kinds.ps
+qualifier_below t = and 1 qualifier-kinds.ps (falls 1 qualifier-kinds.ps ◌<◌ μ_qualifier t) qualifier.Pre
 
-abbrev then-path-below : ℕ → In 1 then-path-kinds.ps
-then-path-below t = and 1 then-path-kinds.ps (falls 1 then-path-kinds.ps ◌<◌ μ-then-path t) then-path.Pre
+abbrev then_path_below : ℕ → In 1 then-path-kinds.ps
+then_path_below t = and 1 then-path-kinds.ps (falls 1 then-path-kinds.ps ◌<◌ μ_then_path t) then-path.Pre
 
-abbrev then-qualifier-below : ℕ → In 1 then-qualifier-kinds.ps
-then-qualifier-below t = and 1 then-qualifier-kinds.ps (falls 1 then-qualifier-kinds.ps ◌<◌ μ-then-qualifier t) then-qualifier.Pre
+abbrev then_qualifier_below : ℕ → In 1 then-qualifier-kinds.ps
+then_qualifier_below t = and 1 then-qualifier-kinds.ps (falls 1 then-qualifier-kinds.ps ◌<◌ μ_then_qualifier t) then-qualifier.Pre
 
 pub +path_qualifier_then_path_then_qualifier_spec : {M : Type 1} → statement M
 +path_qualifier_then_path_then_qualifier_spec =
-    close μ-path μ-qualifier μ-then-path μ-then-qualifier
+    close μ_path μ_qualifier μ_then_path μ_then_qualifier
     (λ t. path-lts.spec
-    (node-code.Asked, node-code.Learnt, byte-below.Asked, byte-below.Learnt, leaving.Asked, leaving.Learnt, path-below t, path.Post, then-path-below t, then-path.Post, then-qualifier-below t, then-qualifier.Post, refuse.Asked, refuse.Learnt)
-    (and 1 path-kinds.ps (is 1 path-kinds.ps μ-path t) path.Pre)
+    (node-code.Asked, node-code.Learnt, byte-below.Asked, byte-below.Learnt, leaving.Asked, leaving.Learnt, path_below t, path.Post, then_path_below t, then-path.Post, then_qualifier_below t, then-qualifier.Post, refuse.Asked, refuse.Learnt)
+    (and 1 path-kinds.ps (is 1 path-kinds.ps μ_path t) path.Pre)
     path.Post
     (λ c κs. search laws) (λ c. search laws) (λ c. search laws) (λ c. search laws) (λ c. search laws) (λ c κs. search laws)
     (λ c κs. search laws) (λ c κs. search laws) (λ c κs. search laws) (λ c κs. search laws) (λ c κs. search laws) (λ c κs. search laws)
     (λ c κs. search laws) (λ c κs. search laws) (λ c κs. search laws) (λ c κs. search laws) (λ c. search laws) (λ c. search laws)
     (λ c. search laws) (λ c. search laws) (λ c. search laws) (λ c. search laws) (λ c. search laws) (λ c. search laws))
     (λ t. qualifier-lts.spec
-    (node-code.Asked, node-code.Learnt, path-below t, path.Post, word.Asked, word.Learnt, leaving.Asked, leaving.Learnt, qualifier-below t, qualifier.Post, then-qualifier-below t, then-qualifier.Post, refuse.Asked, refuse.Learnt)
-    (and 1 qualifier-kinds.ps (is 1 qualifier-kinds.ps μ-qualifier t) qualifier.Pre)
+    (node-code.Asked, node-code.Learnt, path_below t, path.Post, word.Asked, word.Learnt, leaving.Asked, leaving.Learnt, qualifier_below t, qualifier.Post, then_qualifier_below t, then-qualifier.Post, refuse.Asked, refuse.Learnt)
+    (and 1 qualifier-kinds.ps (is 1 qualifier-kinds.ps μ_qualifier t) qualifier.Pre)
     qualifier.Post
     (λ c κs. search laws) (λ c. search laws) (λ c. search laws) (λ c. search laws) (λ c. search laws) (λ c κs. search laws)
     (λ c κs. search laws) (λ c κs. search laws) (λ c κs. search laws) (λ c κs. search laws) (λ c κs. search laws) (λ c κs. search laws)
     (λ c κs. search laws) (λ c κs. search laws) (λ c. search laws) (λ c. search laws) (λ c. search laws) (λ c. search laws)
     (λ c. search laws) (λ c. search laws))
     (λ t. then-path-lts.spec
-    (path-below t, path.Post)
-    (and 1 then-path-kinds.ps (is 1 then-path-kinds.ps μ-then-path t) then-path.Pre)
+    (path_below t, path.Post)
+    (and 1 then-path-kinds.ps (is 1 then-path-kinds.ps μ_then_path t) then-path.Pre)
     then-path.Post
     (λ c. search laws) (λ c. search laws) (λ c. search laws) (λ c κs. search laws) (λ c. search laws))
     λ t. then-qualifier-lts.spec
-    (qualifier-below t, qualifier.Post)
-    (and 1 then-qualifier-kinds.ps (is 1 then-qualifier-kinds.ps μ-then-qualifier t) then-qualifier.Pre)
+    (qualifier_below t, qualifier.Post)
+    (and 1 then-qualifier-kinds.ps (is 1 then-qualifier-kinds.ps μ_then_qualifier t) then-qualifier.Pre)
     then-qualifier.Post
     (λ c. search laws) (λ c. search laws) (λ c. search laws) (λ c κs. search laws) (λ c. search laws)

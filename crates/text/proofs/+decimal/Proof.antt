@@ -7,33 +7,33 @@ use Rattle.text.proofs.decimal.Reads as decimal
 use Rattle.text.proofs.decimal.Kinds as decimal-kinds
 use Rattle.text.proofs.+decimal.Lts-decimal as decimal-lts
 use Rattle.text.proofs.digit.Reads as digit-reads
-use Rattle.writing.proofs.byte.Reads as byte-Reads
+use Rattle.writing.proofs.byte.Reads as byte-reads
 use Rattle.text.proofs.+decimal.{statement}
 use Rattle.text.proofs.+decimal.Tie.{close}
 
-abbrev μ-decimal : Measures 1 decimal-kinds.ps ℕ
-μ-decimal κs a = a.1.1.0
+abbrev μ_decimal : Measures 1 decimal-kinds.ps ℕ
+μ_decimal κs a = a.1.1.0
 
-abbrev decimal-at : ℕ → In 1 decimal-kinds.ps
-decimal-at t = and 1 decimal-kinds.ps (is 1 decimal-kinds.ps μ-decimal t) decimal.Pre
+abbrev decimal_at : ℕ → In 1 decimal-kinds.ps
+decimal_at t = and 1 decimal-kinds.ps (is 1 decimal-kinds.ps μ_decimal t) decimal.Pre
 
-abbrev decimal-below : ℕ → In 1 decimal-kinds.ps
-decimal-below t = and 1 decimal-kinds.ps (falls 1 decimal-kinds.ps ◌<◌ μ-decimal t) decimal.Pre
+abbrev decimal_below : ℕ → In 1 decimal-kinds.ps
+decimal_below t = and 1 decimal-kinds.ps (falls 1 decimal-kinds.ps ◌<◌ μ_decimal t) decimal.Pre
 
 -- What `decimal` knows of the functions that it calls.
-abbrev decimal-calls : ℕ → decimal-lts.Claims
-decimal-calls t = (
+abbrev decimal_calls : ℕ → decimal-lts.Claims
+decimal_calls t = (
   digit-reads.Asked,
   digit-reads.Learnt,
-  byte-Reads.Asked,
-  byte-Reads.Learnt,
-  decimal-below t,
+  byte-reads.Asked,
+  byte-reads.Learnt,
+  decimal_below t,
   decimal.Post,
 )
 
 pub +decimal_spec : {M : Type 1} → statement M
-+decimal_spec = close μ-decimal λ t. decimal-lts.spec (decimal-calls t)
-    (decimal-at t)
++decimal_spec = close μ_decimal λ t. decimal-lts.spec (decimal_calls t)
+    (decimal_at t)
     decimal.Post
     (λ c κs. search laws)
     (λ c κs. search laws)
