@@ -1,13 +1,12 @@
 -- One law for each answer of the check: the first refusal met, or what is announced.
 use Prim.Native.Nat.{ℕ}
+use Rattle.std.proofs.Common.{Ok}
 use mathlib.Core.Path.{◌≡◌, sym, ap, ◌∙◌}
 use mathlib.Core.List.{List}
 use lib.ListN.{length, get_or, replicate}
 use borrow.Author.Rules.{rules}
 use Rattle.meaning.specs.declared.Graph.{Graph}
 use Rattle.meaning.specs.declared.Operation.{Operation}
-use Rattle.meaning.specs.declared.Outcome.{Outcome}
-use Rattle.meaning.specs.declared.Outcome.TheVariants.{Accepted, Refused}
 use Rattle.meaning.specs.declared.Program.{Program}
 use Rattle.meaning.specs.declared.Refusal.{Refusal}
 use Rattle.meaning.specs.Limits.{kinds, step_limit}
@@ -19,6 +18,7 @@ use Rattle.meaning.specs.Refused.{number_of}
 use Rattle.fields.specs.Read.{got, refused}
 use Rattle.graph.specs.Gra.{graph_file}
 use Rattle.rel.specs.Rel.{program_file}
+use Rattle.files.specs.declared.Checkable.{Checkable}
 use Rattle.files.specs.Inside.Opens.{Opens, OfProgram}
 use Rattle.files.specs.Files.{program_under}
 use Rattle.files.proofs.Handed.{under_got, mapped_got, mapped_refused}
@@ -34,18 +34,18 @@ pub refused_made : (r : Refusal) (n : ℕ) (e : Announced) → n ≡ number_of r
 unfolding checked
 refused_made r n e q l h = rw (q, sets_made nothing nothing_on e l h)
 
-module _ (gra rel : List ℕ) {o : Outcome} {g : Graph} {program : Program} (p : Opens (program_under gra rel) o (OfProgram g program)) where
-  pub check_away : {c : Checked} {r : Refusal} → o ≡ Refused r → c ≡ checked (refused r) → c ≡ check_of gra rel
+module _ (gra rel : List ℕ) where
+  pub check_away : {r : Refusal} → program_under gra rel ≡ refused r → checked (refused r) ≡ check_of gra rel
   unfolding check_of
-  check_away h e = e ∙ sym (ap checked (mapped_refused _ (p.turned h)))
+  check_away h = sym (ap checked (mapped_refused _ h))
 
-  module _ (h : o ≡ Accepted) where
-    pub check_all : {steps : List Announced} → steps ≡ announcement g (operations_in program) → record { number = 0; steps = steps } ≡ check_of gra rel
+  module _ (o : Checkable) (p : Opens (program_under gra rel) (Ok o) OfProgram) where
+    pub check_all : {steps : List Announced} → steps ≡ announcement o.graph (operations_in o.program) → record { number = 0; steps = steps } ≡ check_of gra rel
     unfolding check_of checked
-    check_all e = let (x, n, q, w) = p.held h in sym (ap checked (mapped_got _ q) ∙ rw (w.graph, w.steps, e))
+    check_all e = let (x, n, q, w) = p in sym (ap checked (mapped_got _ q) ∙ rw (w.graph, w.steps, e))
 
-    pub check_legal : LegalUnder g program
-    check_legal = let (x, n, q, w) = p.held h in record { graph = w.legal; program = w.lawful; count = rw (← w.whole) w.lawful.most_steps; numbered = w.numbered }
+    pub check_legal : LegalUnder o.graph o.program
+    check_legal = let (x, n, q, w) = p in record { graph = w.legal; program = w.lawful; count = rw (← w.whole) w.lawful.most_steps; numbered = w.numbered }
 
 -- the check's answer shows what is announced for each step, and nothing past the end
 pub check_shows : (gra rel : List ℕ) {g : Graph} {os : List Operation} {m n : ℕ} → LegalGraph g → graph_file gra 0 ≡ got g m → program_file g.k rel 0 ≡ got os n
@@ -53,4 +53,4 @@ pub check_shows : (gra rel : List ℕ) {g : Graph} {os : List Operation} {m n : 
 unfolding check_of checked
 check_shows gra rel {g} {os} legal e q s = rw (mapped_got (λ x. announcement x.0 x.1) (under_got gra (λ g. program_file g.k rel 0) e q)) (announcement_shown g legal os s)
 
-pub ruleset answers = (refused_made, check_away, check_all, check_legal, rules)
+pub ruleset answers = (refused_made, rules)

@@ -6,10 +6,7 @@ ghost use Rattle.fields.specs.Read.{refused};
 ghost use Rattle.announce.specs.Check.{checked, check_of};
 
 use masks::Announced;
-use meaning::{Outcome, Refusal};
-
-// Steps are numbered below this.
-const STEPS: usize = 24;
+use meaning::{Refusal, STEPS};
 
 // What the check answers: 0 and the announcement of each step, with no pairs past the last; or a refusal's number and no pairs.
 #[repr(C)]
@@ -22,11 +19,9 @@ pub struct Checked {
 fn refused(refusal: Refusal) -> Checked
     ensures { result ≡ checked (refused refusal) }
 {
-    let reason = refusal.reason;
-    let none = masks::nothing();
     Checked {
-        number: meaning::number(reason),
-        steps: [none; STEPS],
+        number: u8::from(refusal.reason),
+        steps: [masks::nothing(); STEPS],
     }
 }
 
@@ -34,14 +29,11 @@ fn refused(refusal: Refusal) -> Checked
 pub fn check(gra: &[u8], rel: &[u8]) -> Checked
     ensures { result ≡ check_of gra.now rel.now }
 {
-    let opened = files::program(gra, rel);
-    let outcome = opened.outcome;
-    if let Outcome::Refused(refusal) = outcome {
-        return refused(refusal);
-    }
-    let program = opened.program;
-    Checked {
-        number: 0,
-        steps: masks::announce(opened.graph, program),
+    match files::program(gra, rel) {
+        Ok(opened) => Checked {
+            number: 0,
+            steps: masks::announce(opened.graph, &opened.program),
+        },
+        Err(refusal) => refused(refusal),
     }
 }

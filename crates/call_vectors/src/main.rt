@@ -22,43 +22,29 @@ const WORK: usize = 49152;
 // Sums of bytes are taken modulo this prime, 2^56 - 5.
 const MODULUS: u64 = 72057594037927931;
 
-fn wide(byte: u8) -> u64
-    ensures { result < 256 }
-{
-    byte as u64
-}
-
 // What a lent buffer holds at a place before the call.
 fn pattern(place: usize) -> u8 {
     ((place % 256 * 7 + 3) % 256) as u8
 }
 
 fn fill(buffer: &mut [u8]) {
-    let mut i: usize = 0;
-    while i < buffer.len() {
-        buffer[i] = pattern(i);
-        i += 1;
+    for (place, byte) in buffer.iter_mut().enumerate() {
+        *byte = pattern(place);
     }
 }
 
 fn is_as_filled(buffer: &[u8]) -> bool {
-    let mut i: usize = 0;
-    while i < buffer.len() {
-        if buffer[i] != pattern(i) {
-            return false;
-        }
-        i += 1;
-    }
-    true
+    buffer
+        .iter()
+        .enumerate()
+        .all(|(place, byte)| *byte == pattern(place))
 }
 
 // The bytes as the digits of a number to the base 251, behind a digit 1 that makes leading zeros count.
 fn sum(buffer: &[u8]) -> u64 {
     let mut sum: u64 = 1;
-    let mut i: usize = 0;
-    while i < buffer.len() {
-        sum = (251 * sum + wide(buffer[i])) % MODULUS;
-        i += 1;
+    for byte in buffer {
+        sum = (251 * sum + u64::from(*byte)) % MODULUS;
     }
     sum
 }
@@ -105,16 +91,16 @@ fn print_pairs_from(rt: &impl Print, step: usize, kind: usize, kinds: u32) -> io
     Ok(())
 }
 
-fn print_pairs(rt: &impl Print, step: usize, announced: Announced) -> io::Result<()> {
-    for kind in 0..17 {
-        print_pairs_from(rt, step, kind, announced.pairs[kind])?;
+fn print_pairs(rt: &impl Print, step: usize, announced: &Announced) -> io::Result<()> {
+    for (kind, kinds) in announced.pairs.iter().enumerate() {
+        print_pairs_from(rt, step, kind, *kinds)?;
     }
     Ok(())
 }
 
-fn print_steps(rt: &impl Print, checked: Checked) -> io::Result<()> {
-    for step in 0..24 {
-        print_pairs(rt, step, checked.steps[step])?;
+fn print_steps(rt: &impl Print, checked: &Checked) -> io::Result<()> {
+    for (step, announced) in checked.steps.iter().enumerate() {
+        print_pairs(rt, step, announced)?;
     }
     Ok(())
 }
@@ -123,58 +109,99 @@ fn print_checked(rt: &impl Print, name: &[u8], checked: Checked) -> io::Result<(
     rt.write_all(name)?;
     let number = checked.number;
     print!(rt; " {number}\npairs")?;
-    print_steps(rt, checked)?;
+    print_steps(rt, &checked)?;
     println!(rt; "")
 }
 
+// The calls that write one buffer, and those that write two.
+#[derive(Clone, Copy)]
+enum Converting {
+    Shred,
+    Rebuild,
+    Translate,
+}
+
+#[derive(Clone, Copy)]
+enum Asking {
+    Run,
+    Select,
+    List,
+}
+
+#[derive(Clone, Copy)]
+enum Call {
+    Check,
+    Convert(Converting),
+    Ask(Asking),
+}
+
+// A case: the files that it names, and how much of `out` and of `work` it lends.
+#[derive(Clone, Copy)]
+struct Case<'a> {
+    name: &'a [u8],
+    gra: &'a [u8],
+    second: &'a [u8],
+    third: &'a [u8],
+    out_room: u32,
+    work_room: u32,
+}
+
 // The third letter of each call's name is its own.
-fn letter(name: &[u8]) -> u8 {
-    if name.len() < 3 {
-        return 0;
-    }
-    name[2]
-}
-
-fn convert(call: u8, gra: &[u8], file: &[u8], out: &mut [u8]) -> Answer {
-    match call {
-        b'r' => trammelbud::tb_shred(gra, file, out),
-        b'b' => trammelbud::tb_rebuild(gra, file, out),
-        _ => trammelbud::tb_translate(gra, file, out),
+fn call_of(name: &[u8]) -> Call {
+    match name.get(2) {
+        Some(b'e') => Call::Check,
+        Some(b'r') => Call::Convert(Converting::Shred),
+        Some(b'b') => Call::Convert(Converting::Rebuild),
+        Some(b'n') => Call::Ask(Asking::Run),
+        Some(b'l') => Call::Ask(Asking::Select),
+        Some(b's') => Call::Ask(Asking::List),
+        _ => Call::Convert(Converting::Translate),
     }
 }
 
-fn ask(call: u8, gra: &[u8], edg: &[u8], file: &[u8], out: &mut [u8], work: &mut [u8]) -> Answer {
-    match call {
-        b'n' => trammelbud::tb_run(gra, edg, file, out, work),
-        b'l' => trammelbud::tb_select(gra, edg, file, out, work),
-        _ => trammelbud::tb_list(gra, edg, file, out, work),
+fn convert(which: Converting, case: Case<'_>, out: &mut [u8]) -> Answer {
+    match which {
+        Converting::Shred => trammelbud::tb_shred(case.gra, case.second, out),
+        Converting::Rebuild => trammelbud::tb_rebuild(case.gra, case.second, out),
+        Converting::Translate => trammelbud::tb_translate(case.gra, case.second, out),
+    }
+}
+
+fn ask(which: Asking, case: Case<'_>, out: &mut [u8], work: &mut [u8]) -> Answer {
+    let Case {
+        gra,
+        second,
+        third,
+        ..
+    } = case;
+    match which {
+        Asking::Run => trammelbud::tb_run(gra, second, third, out, work),
+        Asking::Select => trammelbud::tb_select(gra, second, third, out, work),
+        Asking::List => trammelbud::tb_list(gra, second, third, out, work),
     }
 }
 
 fn show_convert(
     rt: &impl Print,
-    name: &[u8],
-    gra: &[u8],
-    file: &[u8],
+    which: Converting,
+    case: Case<'_>,
     out: &mut [u8],
 ) -> io::Result<()> {
     fill(out);
-    print_answer(rt, name, convert(letter(name), gra, file, out))?;
+    print_answer(rt, case.name, convert(which, case, out))?;
     print_out(rt, out)
 }
 
 fn show_ask(
     rt: &impl Print,
-    name: &[u8],
-    gra: &[u8],
-    edg: &[u8],
-    file: &[u8],
+    which: Asking,
+    case: Case<'_>,
     out: &mut [u8],
     work: &mut [u8],
 ) -> io::Result<()> {
     fill(out);
     fill(work);
-    print_answer(rt, name, ask(letter(name), gra, edg, file, out, work))?;
+    print_answer(rt, case.name, ask(which, case, out, work))?;
     print_out(rt, out)?;
     print_work(rt, work)
 }
@@ -186,48 +213,26 @@ fn lent(room: u32, buffer: &[u8]) -> usize
     (room as usize).min(buffer.len())
 }
 
-fn lend_one(rt: &impl Print, name: &[u8], gra: &[u8], file: &[u8], room: u32) -> io::Result<()> {
+fn lend_one(rt: &impl Print, which: Converting, case: Case<'_>) -> io::Result<()> {
     let mut out = [0u8; OUT];
-    let n = lent(room, &out);
-    show_convert(rt, name, gra, file, &mut out[..n])
+    let n = lent(case.out_room, &out);
+    show_convert(rt, which, case, &mut out[..n])
 }
 
-fn lend_two(
-    rt: &impl Print,
-    name: &[u8],
-    gra: &[u8],
-    edg: &[u8],
-    file: &[u8],
-    out_room: u32,
-    work_room: u32,
-) -> io::Result<()> {
+fn lend_two(rt: &impl Print, which: Asking, case: Case<'_>) -> io::Result<()> {
     let mut out = [0u8; OUT];
-    let n = lent(out_room, &out);
+    let n = lent(case.out_room, &out);
     let mut work = [0u8; WORK];
-    let m = lent(work_room, &work);
-    show_ask(rt, name, gra, edg, file, &mut out[..n], &mut work[..m])
+    let m = lent(case.work_room, &work);
+    show_ask(rt, which, case, &mut out[..n], &mut work[..m])
 }
 
-fn make(
-    rt: &impl Print,
-    name: &[u8],
-    gra: &[u8],
-    second: &[u8],
-    third: &[u8],
-    out_room: u32,
-    work_room: u32,
-) -> io::Result<()> {
-    match letter(name) {
-        b'e' => print_checked(rt, name, trammelbud::tb_check(gra, second)),
-        b'n' | b'l' | b's' => lend_two(rt, name, gra, second, third, out_room, work_room),
-        _ => lend_one(rt, name, gra, second, out_room),
+fn make(rt: &impl Print, case: Case<'_>) -> io::Result<()> {
+    match call_of(case.name) {
+        Call::Check => print_checked(rt, case.name, trammelbud::tb_check(case.gra, case.second)),
+        Call::Convert(which) => lend_one(rt, which, case),
+        Call::Ask(which) => lend_two(rt, which, case),
     }
-}
-
-fn digit(glyph: u8) -> u32
-    ensures { result < 16 }
-{
-    (glyph % 16) as u32
 }
 
 // The number that an argument spells in decimal, with five digits at most.
@@ -239,10 +244,8 @@ fn number(rt: &impl Env, at: usize) -> u32 {
 
 fn decimal(text: &[u8]) -> u32 {
     let mut value: u32 = 0;
-    let mut i: usize = 0;
-    while i < text.len() {
-        value = (10 * value + digit(text[i])) % 100000;
-        i += 1;
+    for glyph in text {
+        value = (10 * value + u32::from(*glyph % 16)) % 100000;
     }
     value
 }
@@ -269,15 +272,15 @@ fn judge(rt: &(impl Env + Files + Print), first: usize) -> io::Result<()>
     let s = file(rt, first + 2, &mut second);
     let mut third = [0u8; 1024];
     let t = file(rt, first + 3, &mut third);
-    make(
-        rt,
-        &name[..n],
-        &gra[..g],
-        &second[..s],
-        &third[..t],
-        number(rt, first + 4),
-        number(rt, first + 5),
-    )
+    let case = Case {
+        name: &name[..n],
+        gra: &gra[..g],
+        second: &second[..s],
+        third: &third[..t],
+        out_room: number(rt, first + 4),
+        work_room: number(rt, first + 5),
+    };
+    make(rt, case)
 }
 
 // The arguments are counted from 1, since argument 0 is the program's own name; a case needs all but its last.

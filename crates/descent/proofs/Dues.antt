@@ -7,7 +7,6 @@ use lib.ListN.{length, get_or, drop, length-append, length-drop}
 use lib.Seq.{get_or-drop, drop-drop, drop-append_seam}
 use mir.Syntax.{w8}
 use mir.Val.{Fits}
-use borrow.Author.Rules.{rules}
 use Rattle.meaning.specs.declared.Graph.{Graph}
 use Rattle.meaning.specs.Limits.{kinds}
 use Rattle.meaning.proofs.Runs.{longer_length}
@@ -84,9 +83,9 @@ abbrev due_part : {g : Graph} {s : List ℕ} {room n : ℕ} {from : Place} → D
 due_part d to p rest S k r = record { graph = d.graph; short = d.short; kinds = k; part = p; rest = rest; stands = S; enough = r }
 
 -- No part.
-module _ {g : Graph} {s : List ℕ} {from : Place} {row : Row} (r : row ≡ row_of (get_or s from.at 0)) (leaf : Leaf) (e : row ≡ Row.Leaf leaf) where
+module _ {g : Graph} {s : List ℕ} {from : Place} (leaf : Leaf) (r : Row.Leaf leaf ≡ row_of (get_or s from.at 0)) where
   alone : {n : ℕ} (d : Due g s n from) → Found (Row.Leaf leaf) g s from.at d.part d.rest
-  alone d = found d (sym e ∙ r)
+  alone d = found d r
 
   pub leaf_stands : {n : ℕ} → Due g s n from → LeafDue leaf g s n (ahead from)
   leaf_stands d =
@@ -110,9 +109,9 @@ module _ {g : Graph} {s : List ℕ} {from : Place} {row : Row} (r : row ≡ row_
   }
 
 -- One part.
-module _ {g : Graph} {s : List ℕ} {from : Place} {row : Row} (r : row ≡ row_of (get_or s from.at 0)) (ending : Ending) (e : row ≡ Row.One ending) where
+module _ {g : Graph} {s : List ℕ} {from : Place} (ending : Ending) (r : Row.One ending ≡ row_of (get_or s from.at 0)) where
   single : {n : ℕ} (d : Due g s n from) → Found (Row.One ending) g s from.at d.part d.rest
-  single d = found d (sym e ∙ r)
+  single d = found d r
 
   pub one_due : {n : ℕ} → Due g s n from → Due g s n (ahead from)
   one_due d =
@@ -146,9 +145,9 @@ module _ {g : Graph} {s : List ℕ} {from : Place} {row : Row} (r : row ≡ row_
     }
 
 -- Two parts.
-module _ {g : Graph} {s : List ℕ} {from : Place} {row : Row} (r : row ≡ row_of (get_or s from.at 0)) (second : Second) (operator : Operator) (e : row ≡ Row.Two second operator) where
+module _ {g : Graph} {s : List ℕ} {from : Place} (second : Second) (operator : Operator) (r : Row.Two second operator ≡ row_of (get_or s from.at 0)) where
   pair : {n : ℕ} (d : Due g s n from) → Found (Row.Two second operator) g s from.at d.part d.rest
-  pair d = found d (sym e ∙ r)
+  pair d = found d r
 
   pub two_due : {n : ℕ} → Due g s n from → Due g s n (ahead from)
   two_due d =
@@ -235,5 +234,3 @@ module _ {g : Graph} {s : List ℕ} {from : Place} {row : Row} (r : row ≡ row_
               (omega (arith, H.at, B.at, G.at, F.long, ap length A.bytes, length-append (bytes_of A.left) (bytes_of A.right)))
               (after_goes (after_goes G B) (onto_goes H (applied operator) p));
         }
-
-pub ruleset dues = (due_inside, due_fits, first_falls, leaf_stands, leaf_done, one_due, one_behind, one_done, two_due, two_between, rules)

@@ -4,8 +4,6 @@ use mathlib.Core.Path.{◌≡◌, refl, ap}
 use mathlib.Core.List.{List, ◌∷◌, ◌++◌}
 use native.Mathlib.Omega.{arith}
 use lib.ListN.{length}
-use borrow.Author.Rules.{rules}
-use borrow.Author.Tests.{ne_eqb}
 use Rattle.meaning.specs.declared.Graph.{Graph}
 use Rattle.meaning.specs.declared.Operation.TheVariants.{Text}
 use Rattle.meaning.specs.Queries.{self, child, any_child, slash, slashes, union, filter, reached, text_is, is_not, both, either, path_count, qualifier_count, LegalPath, LegalQualifier}
@@ -77,15 +75,3 @@ part_coded g (qualifier (text_is v) h) =
 part_coded g (qualifier (is_not q) h) = row 0x13 refl (record { inner = qualifier q h; bytes = refl; counts = omega arith; made = λ _. refl; leads = λ _. refl })
 part_coded g (qualifier (both q r) h) = row 0x14 refl (record { left = qualifier q h.0; right = qualifier r h.1; bytes = refl; counts = omega arith; made = λ _. refl; leads = λ _. refl })
 part_coded g (qualifier (either q r) h) = row 0x15 refl (record { left = qualifier q h.0; right = qualifier r h.1; bytes = refl; counts = omega arith; made = λ _. refl; leads = λ _. refl })
-
--- the function of the table
-pub row_as : (c w : ℕ) {r : Row} → c ≡ w → r ≡ row_of w → r ≡ row_of c
-row_as c w e h = rw e h
-
-pub row_other : (c : ℕ) → (c ≡ 0x01 → ⊥) → (c ≡ 0x02 → ⊥) → (c ≡ 0x03 → ⊥) → (c ≡ 0x04 → ⊥) → (c ≡ 0x05 → ⊥) → (c ≡ 0x06 → ⊥) → (c ≡ 0x07 → ⊥)
-    → (c ≡ 0x11 → ⊥) → (c ≡ 0x12 → ⊥) → (c ≡ 0x13 → ⊥) → (c ≡ 0x14 → ⊥) → Row.Two Second.After Operator.Union ≡ row_of c
-unfolding row_of
-row_other c n1 n2 n3 n4 n5 n6 n7 q1 q2 q3 q4 =
-    simp (ne_eqb c _ n1, ne_eqb c _ n2, ne_eqb c _ n3, ne_eqb c _ n4, ne_eqb c _ n5, ne_eqb c _ n6, ne_eqb c _ n7, ne_eqb c _ q1, ne_eqb c _ q2, ne_eqb c _ q3, ne_eqb c _ q4)
-
-pub ruleset row_laws = (row_as, row_other, rules)

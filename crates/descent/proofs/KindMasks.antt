@@ -56,6 +56,10 @@ pub together_or : (C D : ℕ) → C < 2 ^ kinds → D < 2 ^ kinds → bit_or C D
 unfolding together
 together_or C D c d = sym (ap₂ bit_or (mask_bits kinds C c) (mask_bits kinds D d)) ∙ mask_or kinds (bit C) (bit D)
 
+pub below_or : (g : Graph) (C : ℕ) → C < 2 ^ kinds → bit_or C (image (reachable g) C) ≡ or_reachable g C
+unfolding or_reachable
+below_or g C c = together_or C (image (reachable g) C) c (image_small (reachable g) C)
+
 pub only_and : (t C : ℕ) → t < types → C < 2 ^ kinds → bit_and (1 * 2 ^ t % 2 ^ 32) C ≡ only t C
 unfolding only
 only_and t C l c =

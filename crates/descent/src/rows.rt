@@ -1,5 +1,6 @@
-// The table of codes: what follows each, and which steps are made of it.
-ghost use Rattle.std.specs.Prelude.{◌≡◌};
+// The table of codes: what follows each, and which steps are made of it. A row is data and no function: whatever hands out
+// a function pointer is refused.
+ghost use Rattle.std.specs.Prelude.{◌≡◌, ◌<◌, length, slice_index};
 ghost use Rattle.descent.specs.Inside.Rows.{row_of};
 
 use steps::Operator;
@@ -37,7 +38,9 @@ pub(crate) enum Row {
     Two(Second, Operator),
 }
 
-pub(crate) fn row_of(code: u8) -> Row
+// The row of a code. No `TryFrom`: an accepted query has no other code, so there is nothing to refuse.
+#[tactic(auto, unfolding(crate::specs::Inside::Rows::row_of))]
+fn row_of(code: u8) -> Row
     ensures { result ≡ row_of code }
 {
     match code {
@@ -52,7 +55,15 @@ pub(crate) fn row_of(code: u8) -> Row
         0x12 => Row::Leaf(Leaf::Text),
         0x13 => Row::One(Ending::Not),
         0x14 => Row::Two(Second::After, Operator::Both),
-        // 0x15: an accepted query has no other code.
+        // 0x15 is the last.
         _ => Row::Two(Second::After, Operator::Union),
     }
+}
+
+// The row of the code that stands at a place of the query.
+pub(crate) fn row_at(qry: &[u8], at: u8) -> Row
+    requires { at < length qry.now }
+    ensures { result ≡ row_of (slice_index qry.now at) }
+{
+    row_of(qry[usize::from(at)])
 }

@@ -1,3 +1,2 @@
--- The laws behind the reader.
-pub mod Tokens
+-- The laws behind the loop over tokens.
 pub mod Reading

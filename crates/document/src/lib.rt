@@ -1,39 +1,35 @@
 // The reader of document files: one loop over the tokens. It needs no stack, for the parent of the innermost open
 // element is kept with the element.
-#![tactic(auto)]
+#![tactic(auto, unfolding(fields::specs::Read::judged, fields::specs::Read::mapped, fields::specs::Inside::Outcomes::answered, tre::specs::Tre::code, tre::specs::Tre::opened, tre::specs::Tre::popped, tre::specs::Tre::pushed, tre::specs::Tre::token, tre::specs::Tre::document_read, tre::specs::Tre::document_file, crate::specs::Inside::States::open_in))]
 
-ghost use Rattle.std.specs.Prelude.{◌≡◌, ◌<◌, length};
+ghost use Rattle.std.specs.Prelude.{◌≡◌, ◌<◌, ◌≤◌, length, take};
 ghost use Rattle.meaning.specs.Limits.{element_limit};
+ghost use Rattle.meaning.specs.Documents.{node};
+ghost use Rattle.fields.specs.Read.{mapped};
 ghost use Rattle.fields.specs.Inside.Outcomes.{read_of};
-ghost use Rattle.elements.specs.Inside.Packing.{Keeps};
+ghost use Rattle.elements.specs.Inside.Keeping.{Keeps};
 ghost use Rattle.tre.specs.Tre.{nothing_open, pushed, popped, code, new_type, opened, token, tokens, document_file};
-ghost use Rattle.document.specs.Inside.States.{open_in, HasRoom, OpenRead};
 
-use elements::{ElementsRead, node_at, packed, turned_away};
+use elements::node_at;
 use fields::{Cursor, Field};
-use meaning::{Element, Graph, Outcome, Reason, SMALL};
-use numbers::{u16_to_u8, usize_to_u8};
+use meaning::{Element, Graph, Reason, Refusal, SMALL};
 
-// Where reading stands: how many elements are kept so far, and the innermost that is open.
+// Where reading stands: how many elements are kept so far, and the innermost that is open. The places where they are kept go
+// beside it: with them in it, each contract would have to say that they are still the same ones.
 #[derive(Clone, Copy)]
 struct Standing {
     count: usize,
     inner: u8,
-}
-
-// After a token: where reading stands, and where it goes on or the refusal.
-#[derive(Clone, Copy)]
-struct Turn {
-    state: Standing,
-    next: Field,
+    ghost few: { count ≤ element_limit },
 }
 
 // The code of a token, behind so many elements.
-fn code(s: &[u8], c: Cursor, count: usize) -> Field
+fn code(s: &[u8], c: Cursor, count: usize) -> Field<u8>
     ensures { read_of result ≡ code element_limit count s.now c.at }
 {
     let read = c.byte(s);
-    let Field::Got(code, _) = read else {
+    // Not by `?`, which would take apart what is judged whole.
+    let Ok((code, _)) = read else {
         return read;
     };
     match code {
@@ -44,125 +40,106 @@ fn code(s: &[u8], c: Cursor, count: usize) -> Field
 }
 
 impl Standing {
+    ghost use Rattle.document.specs.Inside.States.{open_in};
+
+    // The innermost that is open.
+    fn innermost(self, kept: &[Element]) -> Element
+        requires { length kept.now ≡ element_limit }
+        ensures { result ≡ node (take self.count kept.now) self.inner }
+    {
+        node_at(&kept[..self.count], self.inner)
+    }
+
     // The type of an element that may stand in the innermost.
-    fn new_type(self, kept: &[u32], s: &[u8], g: Graph, c: Cursor) -> Field
-        requires { HasRoom kept.now self }
+    fn new_type(self, kept: &[Element], s: &[u8], g: Graph, c: Cursor) -> Field<u8>
+        requires { length kept.now ≡ element_limit }
         ensures { read_of result ≡ new_type g (open_in kept.now self) s.now c.at }
     {
         let read = c.byte_below(s, g.k, Reason::Kind);
-        let Field::Got(t, _) = read else {
+        // Not by `?`, as in `code`.
+        let Ok((t, _)) = read else {
             return read;
         };
-        let inner = node_at(kept, self.count, self.inner);
-        c.judged(
-            read,
-            kinds::is_child(g, inner.kind, u16_to_u8(t)),
-            Reason::Edge,
-        )
+        let inner = self.innermost(kept);
+        c.judged(read, kinds::is_child(g, inner.kind, t), Reason::Edge)
     }
 
     // The new element goes behind the last, and is the innermost.
-    fn push(self, kept: &mut [u32], kind: u8, text: u16) -> Standing
-        requires { HasRoom kept.old self × (self.count < element_limit) }
-        ensures { HasRoom kept.new result × (open_in kept.new result ≡ pushed (open_in kept.old self) kind text) }
+    fn push(self, kept: &mut [Element], kind: u8, text: u16) -> Standing
+        requires long { length kept.old ≡ element_limit }
+        requires room { self.count < element_limit }
+        ensures { open_in kept.new result ≡ pushed (open_in kept.old self) kind text }
     {
-        let count = self.count;
-        kept[count] = packed(Element {
+        kept[self.count] = Element {
             parent: self.inner,
             kind,
             text,
-        });
+        };
+        let count = self.count + 1;
         Standing {
-            count: count + 1,
-            inner: usize_to_u8(count + 1),
+            count,
+            inner: count as u8,
         }
     }
 
     // After 0x01: the type, then the text.
-    fn opened(self, kept: &mut [u32], s: &[u8], g: Graph, c: Cursor) -> Turn
-        requires { HasRoom kept.old self × (self.count < element_limit) }
-        ensures { OpenRead (λ o. o) kept.new result (opened g (open_in kept.old self) s.now c.at) }
+    fn opened(self, kept: &mut [Element], s: &[u8], g: Graph, c: Cursor) -> Field<Standing>
+        requires long { length kept.old ≡ element_limit }
+        requires room { self.count < element_limit }
+        ensures { mapped (open_in kept.new) (read_of result) ≡ opened g (open_in kept.old self) s.now c.at }
     {
-        let next = self.new_type(kept, s, g, c);
-        let Field::Got(t, after) = next else {
-            return Turn { state: self, next };
-        };
-        let next = after.word(s);
-        let Field::Got(text, _) = next else {
-            return Turn { state: self, next };
-        };
-        let state = self.push(kept, u16_to_u8(t), text);
-        Turn { state, next }
+        let (kind, after) = self.new_type(kept, s, g, c)?;
+        let (text, next) = after.word(s)?;
+        Ok((self.push(kept, kind, text), next))
     }
 
     // After 0x02: the parent is the innermost again.
-    fn popped(self, kept: &[u32]) -> Standing
-        requires { HasRoom kept.now self }
-        ensures { HasRoom kept.now result × (open_in kept.now result ≡ popped (open_in kept.now self)) }
+    fn popped(self, kept: &[Element]) -> Standing
+        requires { length kept.now ≡ element_limit }
+        ensures { open_in kept.now result ≡ popped (open_in kept.now self) }
     {
         Standing {
             count: self.count,
-            inner: node_at(kept, self.count, self.inner).parent,
+            inner: self.innermost(kept).parent,
         }
     }
 
-    fn token(self, kept: &mut [u32], s: &[u8], g: Graph, c: Cursor) -> Turn
-        requires { HasRoom kept.old self }
-        ensures { OpenRead (λ o. o) kept.new result (token element_limit g (open_in kept.old self) s.now c.at) }
+    // One token: it opens an element, or closes the innermost.
+    fn token(self, kept: &mut [Element], s: &[u8], g: Graph, c: Cursor) -> Field<Standing>
+        requires { length kept.old ≡ element_limit }
+        ensures { mapped (open_in kept.new) (read_of result) ≡ token element_limit g (open_in kept.old self) s.now c.at }
     {
-        let next = code(s, c, self.count);
-        let Field::Got(code, after) = next else {
-            return Turn { state: self, next };
-        };
-        if code == 0x01 {
-            return self.opened(kept, s, g, after);
+        let (code, after) = code(s, c, self.count)?;
+        match code {
+            0x01 => self.opened(kept, s, g, after),
+            _ => Ok((self.popped(kept), after)),
         }
-        let state = self.popped(kept);
-        Turn { state, next }
+    }
+
+    // The tokens from here on, up to the close of element 1.
+    fn read_tokens(self, kept: &mut [Element], s: &[u8], g: Graph, c: Cursor) -> Field<Standing>
+        requires { length kept.old ≡ element_limit }
+        ensures { mapped (λ o. o.elements) (mapped (open_in kept.new) (read_of result)) ≡ tokens (length s.now) element_limit g (open_in kept.old self) s.now c.at }
+    {
+        let mut standing = self;
+        let mut cursor = c;
+        // No `for`: the file says where element 1 closes.
+        loop {
+            (standing, cursor) = standing.token(kept, s, g, cursor)?;
+            if standing.inner == 0 {
+                return Ok((standing, cursor));
+            }
+        }
     }
 }
 
-// The tokens, up to the close of element 1.
-fn read_tokens(kept: &mut [u32], s: &[u8], g: Graph, first: Cursor) -> Turn
-    requires { length kept.old ≡ element_limit }
-    ensures { OpenRead (λ o. o.elements) kept.new result (tokens (length s.now) element_limit g nothing_open s.now first.at) }
-{
-    let mut standing = Standing { count: 0, inner: 0 };
-    let mut cursor = first;
-    loop {
-        let turn = standing.token(kept, s, g, cursor);
-        let next = turn.next;
-        let Field::Got(_, after) = next else {
-            return turn;
-        };
-        standing = turn.state;
-        if standing.inner == 0 {
-            return turn;
-        }
-        cursor = after;
-    }
-}
-
-pub fn read(s: &[u8], g: Graph, kept: &mut [u32]) -> ElementsRead
+pub fn read(s: &[u8], g: Graph, kept: &mut [Element]) -> Result<usize, Refusal>
     requires { length kept.old ≡ element_limit }
     ensures { Keeps (document_file element_limit g s.now 0) kept.new result }
 {
-    let headed = Cursor::start().header(s, b'T', b'R', b'E', 1);
-    let Field::Got(_, first) = headed else {
-        return turned_away(headed);
-    };
-    let turn = read_tokens(kept, s, g, first);
-    let next = turn.next;
-    let Field::Got(_, last) = next else {
-        return turned_away(next);
-    };
-    let ended = last.end(s);
-    let Field::Got(_, _) = ended else {
-        return turned_away(ended);
-    };
-    let state = turn.state;
-    ElementsRead {
-        outcome: Outcome::Accepted,
-        count: state.count,
-    }
+    let (_, first) = Cursor::start().header(s, b'T', b'R', b'E', 1)?;
+    let nothing = Standing { count: 0, inner: 0 };
+    let (standing, last) = nothing.read_tokens(kept, s, g, first)?;
+    last.end(s)?;
+    Ok(standing.count)
 }

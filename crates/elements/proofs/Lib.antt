@@ -1,2 +1,2 @@
--- The laws of elements that are kept in numbers.
-pub mod Packing
+-- The laws of elements that are kept.
+pub mod Keeping

@@ -1,2 +1,2 @@
 -- What functions of the library ask of each other: no caller has to believe it.
-pub mod Packing
+pub mod Keeping

@@ -1,19 +1,17 @@
-// The files of a call, read in order: the graph first, then the others under it. The first refusal met is handed on, and
-// nobody looks at what stands beside it.
+// The files of a call, read in order: the graph first, then the others under it. The first refusal met is handed on.
 #![tactic(auto)]
 
 ghost use Rattle.std.specs.Prelude.{◌≡◌, length};
 ghost use Rattle.meaning.specs.Limits.{element_limit};
-ghost use Rattle.elements.specs.Inside.Packing.{blank_places};
+ghost use Rattle.elements.specs.Inside.Keeping.{blank_places};
 ghost use Rattle.files.specs.Inside.Opens.{Opens, OfElements, OfQuery, OfProgram, OfTablesThenQuery, OfTablesThenProgram};
 ghost use Rattle.files.specs.Files.{document_under, tables_under, query_under, program_under, tables_then_query, tables_then_program};
 
-use meaning::{Graph, Outcome, Program};
+use meaning::{Element, Graph, Program, Refusal};
 
 // A graph, and how many elements are kept that were read under it.
 #[derive(Clone, Copy)]
 pub struct Opened {
-    pub outcome: Outcome,
     pub graph: Graph,
     pub count: usize,
 }
@@ -21,7 +19,6 @@ pub struct Opened {
 // A graph, and how many nodes the query has that was read under it.
 #[derive(Clone, Copy)]
 pub struct Asked {
-    pub outcome: Outcome,
     pub graph: Graph,
     pub nodes: u8,
 }
@@ -29,7 +26,6 @@ pub struct Asked {
 // A graph, and the program that was read under it.
 #[derive(Clone, Copy)]
 pub struct Checkable {
-    pub outcome: Outcome,
     pub graph: Graph,
     pub program: Program,
 }
@@ -37,147 +33,68 @@ pub struct Checkable {
 // How many elements are kept, and the program to run over them.
 #[derive(Clone, Copy)]
 pub struct Runnable {
-    pub outcome: Outcome,
     pub count: usize,
     pub program: Program,
 }
 
-pub fn document(gra: &[u8], tre: &[u8], kept: &mut [u32]) -> Opened
+pub fn document(gra: &[u8], tre: &[u8], kept: &mut [Element]) -> Result<Opened, Refusal>
     requires { length kept.old ≡ element_limit }
-    ensures { Opens (document_under gra.now tre.now) result.outcome (OfElements result.graph kept.new result.count) }
+    ensures { Opens (document_under gra.now tre.now) result (OfElements kept.new) }
 {
-    let read = graph::read(gra);
-    let graph = read.graph;
-    let outcome = read.outcome;
-    if let Outcome::Refused(_) = outcome {
-        return Opened {
-            outcome,
-            graph,
-            count: 0,
-        };
-    }
-    let found = document::read(tre, graph, kept);
-    let outcome = found.outcome;
-    Opened {
-        outcome,
-        graph,
-        count: found.count,
-    }
+    let graph = graph::read(gra)?;
+    let count = document::read(tre, graph, kept)?;
+    Ok(Opened { graph, count })
 }
 
-pub fn tables(gra: &[u8], edg: &[u8], kept: &mut [u32]) -> Opened
+pub fn tables(gra: &[u8], edg: &[u8], kept: &mut [Element]) -> Result<Opened, Refusal>
     requires { kept.old ≡ blank_places element_limit }
-    ensures { Opens (tables_under gra.now edg.now) result.outcome (OfElements result.graph kept.new result.count) }
+    ensures { Opens (tables_under gra.now edg.now) result (OfElements kept.new) }
 {
-    let read = graph::read(gra);
-    let graph = read.graph;
-    let outcome = read.outcome;
-    if let Outcome::Refused(_) = outcome {
-        return Opened {
-            outcome,
-            graph,
-            count: 0,
-        };
-    }
-    let found = tables::read(edg, graph, kept);
-    let outcome = found.outcome;
-    Opened {
-        outcome,
-        graph,
-        count: found.count,
-    }
+    let graph = graph::read(gra)?;
+    let count = tables::read(edg, graph, kept)?;
+    Ok(Opened { graph, count })
 }
 
-pub fn query(gra: &[u8], qry: &[u8]) -> Asked
-    ensures { Opens (query_under gra.now qry.now) result.outcome (OfQuery result.graph result.nodes) }
+pub fn query(gra: &[u8], qry: &[u8]) -> Result<Asked, Refusal>
+    ensures { Opens (query_under gra.now qry.now) result OfQuery }
 {
-    let read = graph::read(gra);
-    let graph = read.graph;
-    let outcome = read.outcome;
-    if let Outcome::Refused(_) = outcome {
-        return Asked {
-            outcome,
-            graph,
-            nodes: 0,
-        };
-    }
-    let found = query::read(qry, graph.k);
-    let outcome = found.outcome;
-    Asked {
-        outcome,
-        graph,
-        nodes: found.nodes,
-    }
+    let graph = graph::read(gra)?;
+    let nodes = query::read(qry, graph.k)?;
+    Ok(Asked { graph, nodes })
 }
 
-pub fn program(gra: &[u8], rel: &[u8]) -> Checkable
-    ensures { Opens (program_under gra.now rel.now) result.outcome (OfProgram result.graph result.program) }
+pub fn program(gra: &[u8], rel: &[u8]) -> Result<Checkable, Refusal>
+    ensures { Opens (program_under gra.now rel.now) result OfProgram }
 {
-    let read = graph::read(gra);
-    let graph = read.graph;
-    let outcome = read.outcome;
-    if let Outcome::Refused(_) = outcome {
-        return Checkable {
-            outcome,
-            graph,
-            program: program::EMPTY,
-        };
-    }
-    let found = program::read(rel, graph.k);
-    let outcome = found.outcome;
-    let program = found.program;
-    Checkable {
-        outcome,
-        graph,
-        program,
-    }
+    let graph = graph::read(gra)?;
+    let program = program::read(rel, graph.k)?;
+    Ok(Checkable { graph, program })
 }
 
-pub fn tables_then_query(gra: &[u8], edg: &[u8], qry: &[u8], kept: &mut [u32]) -> Opened
+pub fn tables_then_query(
+    gra: &[u8],
+    edg: &[u8],
+    qry: &[u8],
+    kept: &mut [Element],
+) -> Result<Opened, Refusal>
     requires { kept.old ≡ blank_places element_limit }
-    ensures { Opens (tables_then_query gra.now edg.now qry.now) result.outcome (OfTablesThenQuery result.graph kept.new result.count) }
+    ensures { Opens (tables_then_query gra.now edg.now qry.now) result (OfTablesThenQuery kept.new) }
 {
-    let opened = tables(gra, edg, kept);
-    let graph = opened.graph;
-    let count = opened.count;
-    let outcome = opened.outcome;
-    if let Outcome::Refused(_) = outcome {
-        return Opened {
-            outcome,
-            graph,
-            count,
-        };
-    }
-    let found = query::read(qry, graph.k);
-    let outcome = found.outcome;
-    Opened {
-        outcome,
-        graph,
-        count,
-    }
+    let opened = tables(gra, edg, kept)?;
+    query::read(qry, opened.graph.k)?;
+    Ok(opened)
 }
 
-pub fn tables_then_program(gra: &[u8], edg: &[u8], rel: &[u8], kept: &mut [u32]) -> Runnable
+pub fn tables_then_program(
+    gra: &[u8],
+    edg: &[u8],
+    rel: &[u8],
+    kept: &mut [Element],
+) -> Result<Runnable, Refusal>
     requires { kept.old ≡ blank_places element_limit }
-    ensures { Opens (tables_then_program gra.now edg.now rel.now) result.outcome (OfTablesThenProgram kept.new result.count result.program) }
+    ensures { Opens (tables_then_program gra.now edg.now rel.now) result (OfTablesThenProgram kept.new) }
 {
-    let opened = tables(gra, edg, kept);
-    let graph = opened.graph;
-    let count = opened.count;
-    let outcome = opened.outcome;
-    if let Outcome::Refused(_) = outcome {
-        return Runnable {
-            outcome,
-            count,
-            program: program::EMPTY,
-        };
-    }
-    let found = program::read(rel, graph.k);
-    let outcome = found.outcome;
-    let program = found.program;
-    Runnable {
-        outcome,
-        count,
-        program,
-    }
+    let Opened { graph, count } = tables(gra, edg, kept)?;
+    let program = program::read(rel, graph.k)?;
+    Ok(Runnable { count, program })
 }

@@ -8,12 +8,7 @@ use lib.Seq.{set_at, append_snoc}
 use borrow.Author.Rules.{rules}
 use Rattle.meaning.specs.declared.Refusal.{Refusal}
 use Rattle.meaning.specs.Limits.{types}
-use Rattle.fields.specs.declared.Cursor.{Cursor}
-use Rattle.fields.specs.declared.Field.{Field}
-use Rattle.fields.specs.declared.Field.TheVariants.{Got, Refused}
-use Rattle.fields.specs.Inside.Outcomes.{read_of, beside}
 use Rattle.fields.specs.Read.{Read, got, refused, bind, mask_below}
-use Rattle.fields.proofs.Laws.{taken, handed}
 use Rattle.graph.specs.Gra.{masks, all_masks}
 
 -- the reading comes to e, with what is in hand before it
@@ -40,8 +35,8 @@ pub record Sofar (s : List ℕ) (k start : ℕ) (xs : List ℕ) (at i : ℕ) : T
 pub masks_start : (s : List ℕ) (k at : ℕ) → Sofar s k at (replicate types 0) at 0
 masks_start s k at = record { done = []; left = k; count = refl; all = omega arith; kept = refl; reading = after_none (masks k k s at) }
 
-module _ {s : List ℕ} {k start : ℕ} {xs : List ℕ} {c : Cursor} {i : ℕ} (h : Sofar s k start xs c.at i) where
-  pub masks_done : k ≤ i → got xs c.at ≡ all_masks k s start
+module _ {s : List ℕ} {k start : ℕ} {xs : List ℕ} {at i : ℕ} (h : Sofar s k start xs at i) where
+  pub masks_done : k ≤ i → got xs at ≡ all_masks k s start
   unfolding masks all_masks
   masks_done l =
       let e : i ≡ k = omega (arith, h.all) in
@@ -51,28 +46,27 @@ module _ {s : List ℕ} {k start : ℕ} {xs : List ℕ} {c : Cursor} {i : ℕ} (
       simp (reading, append-nil, kept)
 
   module _ (l : i < k) where
-    one_more : masks k k s start ≡ after h.done (bind (mask_below k s c.at) λ m at. bind (masks k (h.left - 1) s at) λ ms n. got (m ∷ ms) n)
+    one_more : masks k k s start ≡ after h.done (bind (mask_below k s at) λ m at. bind (masks k (h.left - 1) s at) λ ms n. got (m ∷ ms) n)
     unfolding masks
     one_more = let some : h.left ≡ suc (h.left - 1) = omega (arith, h.all) in rw some at h.reading
 
-    module _ {x : Field} (p : read_of x ≡ mask_below k s c.at) where
-      pub masks_refused : {r : Refusal} → x ≡ Refused r → beside x xs ≡ all_masks k s start
-      unfolding all_masks
-      masks_refused q = simp (one_more, handed p q, q)
+    pub masks_refused : {r : Refusal} → refused r ≡ mask_below k s at → refused r ≡ all_masks k s start
+    unfolding all_masks
+    masks_refused q = simp (one_more, sym q)
 
-      pub masks_again : {m : ℕ} {d : Cursor} → k ≤ types → x ≡ Got m d → Sofar s k start (set xs i m) d.at (i + 1)
-      masks_again {m} {d} most q =
-          let fewer : types - i ≡ suc (types - (i + 1)) = omega arith in
-          record {
-            done = h.done ++ (m ∷ []);
-            left = h.left - 1;
-            count = omega (arith, length-append h.done (m ∷ []), h.count);
-            all = omega (arith, h.all);
-            kept =
-                ap (λ (l : List ℕ). set l i m) (rw fewer at h.kept)
-                ∙ set_at h.done 0 (replicate (types - (i + 1)) 0) m i h.count
-                ∙ sym (append_snoc h.done m (replicate (types - (i + 1)) 0));
-            reading = one_more ∙ simp (taken p q) (after_more h.done m (masks k (h.left - 1) s d.at));
-          }
+    pub masks_again : {m next : ℕ} → k ≤ types → got m next ≡ mask_below k s at → Sofar s k start (set xs i m) next (i + 1)
+    masks_again {m} {next} most q =
+        let fewer : types - i ≡ suc (types - (i + 1)) = omega arith in
+        record {
+          done = h.done ++ (m ∷ []);
+          left = h.left - 1;
+          count = omega (arith, length-append h.done (m ∷ []), h.count);
+          all = omega (arith, h.all);
+          kept =
+              ap (λ (l : List ℕ). set l i m) (rw fewer at h.kept)
+              ∙ set_at h.done 0 (replicate (types - (i + 1)) 0) m i h.count
+              ∙ sym (append_snoc h.done m (replicate (types - (i + 1)) 0));
+          reading = one_more ∙ simp (sym q) (after_more h.done m (masks k (h.left - 1) s next));
+        }
 
 pub ruleset laws = (masks_start, masks_done, masks_refused, masks_again, rules)

@@ -1,2 +1,1 @@
 pub mod Gra
-pub mod Inside

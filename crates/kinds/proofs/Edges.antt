@@ -14,7 +14,7 @@ use Rattle.meaning.specs.Limits.{types, document}
 use Rattle.meaning.specs.Sets.{bit}
 use Rattle.meaning.specs.Graphs.{child_kind}
 use Rattle.meaning.proofs.Tests.{fails}
-use Rattle.meaning.proofs.Bits.{bit_shifted, bits_below}
+use Rattle.meaning.proofs.Bits.{bits_below}
 use Rattle.meaning.proofs.Sets.{bit_none}
 
 module _ (g : Graph) (a b : ℕ) where
@@ -40,4 +40,4 @@ module _ (g : Graph) (a b : ℕ) where
     unfolding child_kind
     edge_of_type e t = simp no_document (t ∙ rw e)
 
-pub ruleset laws = (bit_shifted, edge_of_document, no_such_type, no_such_child, edge_of_type, rules)
+pub ruleset laws = (edge_of_document, no_such_type, no_such_child, edge_of_type, rules)

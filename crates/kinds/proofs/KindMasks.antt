@@ -1,7 +1,7 @@
--- Sets of kinds as masks: one law for each return, and for each turn of the two loops.
+-- Sets of kinds as masks: the laws of each return, and of each turn of the two loops.
 use Prim.Native.Nat.{ℕ, ◌+◌, ◌*◌, ◌%◌, ◌^◌, ◌<◌, ◌≤◌}
 use mathlib.Core.Path.{◌≡◌, refl, sym, ap, ◌∙◌, fun_ext}
-use mathlib.Core.Bool.{Bool, true, false, ◌&&◌, ◌||◌, cond}
+use mathlib.Core.Bool.{Bool, true, false, ◌&&◌, ◌||◌, cond, or_assoc, or_comm}
 use native.Mathlib.Nat.{mod-eq_of_lt, lt_of_not-le}
 use native.Mathlib.Numerals.{add-one}
 use native.Mathlib.Omega.{arith}
@@ -11,7 +11,6 @@ use lib.ListN.{length, get_or}
 use lib.Pow.{pow-lt}
 use mir.Syntax.{w16}
 use mir.Val.{Fits}
-use borrow.Author.Rules.{rules}
 use borrow.Author.Tests.{eq-eqb, ne_eqb, eqb-true}
 use Rattle.meaning.specs.declared.Graph.{Graph}
 use Rattle.meaning.specs.Limits.{types, document, kinds}
@@ -42,13 +41,6 @@ module _ (g : Graph) (kind : ℕ) where
   type_children n f e =
       e ∙ sym (mask_bits kinds _ (omega (arith, f.fits))) ∙ mask_cong kinds _ _ (λ B b. edge_of_type g kind B n refl refl)
 
-module _ {t : Bool} (set kind row : ℕ) (e : t ≡ bit set kind) where
-  pub row_chosen : t ≡ true → row ≡ cond (bit set kind) row 0
-  row_chosen q = rw (sym e ∙ q)
-
-  pub none_chosen : t ≡ false → 0 ≡ cond (bit set kind) row 0
-  none_chosen q = rw (sym e ∙ q)
-
 pub chosen_bits : (t : Bool) (row B : ℕ) → bit (cond t row 0) B ≡ t && bit row B
 chosen_bits true row B = refl
 chosen_bits false row B = bit_none B
@@ -60,35 +52,25 @@ module _ (n : ℕ) (f g : ℕ → Bool) where
   both_out : {P : Type 0} → ((u : ℕ) → u < n → f u ≡ true → g u ≡ true → P) → any n (λ u. f u && g u) ≡ true → P
   both_out k = any_out n (λ u. f u && g u) (λ u l h. k u l (and_left (f u) (g u) h) (and_right (f u) (g u) h))
 
--- after n turns of a loop over the kinds, m is F n
-pub record Upto {T : Type 0} (F : ℕ → T) (n : ℕ) (m : T) : Type 0 where
-  pub most : n ≤ kinds
-  pub is : m ≡ F n
-
-pub upto_all : {T : Type 0} (F : ℕ → T) {n : ℕ} {m : T} → Upto F n m → kinds ≤ n → m ≡ F kinds
-upto_all F {n} u l = let e : n ≡ kinds = omega (arith, u.most) in u.is ∙ ap F e
-
 module _ (rows : ℕ → ℕ) (set : ℕ) where
   -- what the rows of the kinds below n have that are in the set
   unfoldable pub image_upto : ℕ → ℕ → Bool
   image_upto n B = any n (λ A. bit set A && bit (rows A) B)
 
-  pub image_none : Upto image_upto 0 (bit 0)
+  pub image_none : bit 0 ≡ image_upto 0
   unfolding image_upto any
-  image_none = record { most = omega arith; is = fun_ext bit_none }
+  image_none = fun_ext bit_none
 
-  pub image_more : {n : ℕ} (found row next : ℕ) → Upto image_upto n (bit found) → n < kinds → row ≡ rows n → next ≡ cond (bit set n) row 0
-      → Upto image_upto (n + 1) (bit (bit_or next found))
+  pub image_more : (n found row next : ℕ) → bit found ≡ image_upto n → row ≡ rows n → next ≡ cond (bit set n) row 0
+      → bit (bit_or found next) ≡ image_upto (n + 1)
   unfolding image_upto any
-  image_more {n} found row next u l q e = record {
-    most = omega arith;
-    is = fun_ext λ B. bit_or_lem B next found ∙ simp (e, q, ap (λ f. f B) u.is, add-one, chosen_bits (bit set n) (rows n) B);
-  }
+  image_more n found row next h q e =
+      fun_ext λ B. bit_or_lem B found next ∙ or_comm (bit found B) (bit next B) ∙ simp (e, q, ap (λ f. f B) h, add-one, chosen_bits (bit set n) (rows n) B)
 
-pub image_all : (r : Relation) (c found : ℕ) {n : ℕ} → Upto (image_upto (λ A. mask kinds (r A)) c) n (bit found) → kinds ≤ n → found ≡ image r c
+pub image_all : (r : Relation) (c n found : ℕ) → n ≡ kinds → bit found ≡ image_upto (λ A. mask kinds (r A)) c n → found ≡ image r c
 unfolding image_upto image
-image_all r c found u l =
-    let done : (B : ℕ) → bit found B ≡ any kinds (λ A. bit c A && bit (mask kinds (r A)) B) = λ B. ap (λ f. f B) (upto_all _ u l) in
+image_all r c n found l h =
+    let done : (B : ℕ) → bit found B ≡ any kinds (λ A. bit c A && bit (mask kinds (r A)) B) = λ B. ap (λ f. f B) h ∙ rw l in
     sym (mask_bits kinds found (below_bits kinds found (λ B h. any_out kinds _ (λ A a e. mask_below_lem kinds (r A) B (and_right (bit c A) _ e)) (sym (done B) ∙ h))))
     ∙ mask_cong kinds _ _ (λ B b. done B ∙ any_cong kinds _ _ (λ A a. ap (λ t. bit c A && t) (bit_mask kinds (r A) B b)))
 
@@ -97,13 +79,10 @@ module _ (r : Relation) (c : ℕ) where
   pub rounds : ℕ → ℕ
   rounds k = image (within k kinds r) c
 
-  pub rounds_none : Upto rounds 0 0
+  pub rounds_none : 0 ≡ rounds 0
   unfolding rounds image within
   rounds_none =
-      record {
-        most = omega arith;
-        is = sym (mask_cong kinds _ (λ B. false) (λ B b. fails _ (any_out kinds _ (λ A a h. never (and_right (bit c A) false h)))) ∙ mask_none kinds);
-      }
+      sym (mask_cong kinds _ (λ B. false) (λ B b. fails _ (any_out kinds _ (λ A a h. never (and_right (bit c A) false h)))) ∙ mask_none kinds)
 
   module _ (k B : ℕ) where
     -- the kinds of c, and those that one to k steps lead to
@@ -129,13 +108,13 @@ module _ (r : Relation) (c : ℕ) where
         last : (u : ℕ) → u < kinds → bit c u || bit (rounds k) u ≡ true → r u B ≡ true → any kinds (λ A. bit reached A && r A B) ≡ true
         last u l h = both_in kinds (bit reached) (λ A. r A B) u l (bit_or_lem u c (rounds k) ∙ h)
 
-  pub rounds_more : {k reached next : ℕ} → Upto rounds k reached → k < kinds → next ≡ image r (bit_or c reached) → Upto rounds (k + 1) next
+  pub rounds_more : (k reached next : ℕ) → reached ≡ rounds k → next ≡ image r (bit_or c reached) → next ≡ rounds (k + 1)
   unfolding rounds image within
-  rounds_more {k} u l e = record { most = omega arith; is = e ∙ simp (u.is, add-one) (mask_cong kinds _ _ (λ B b. one_more k B)) }
+  rounds_more k reached next h e = e ∙ simp (h, add-one) (mask_cong kinds _ _ (λ B b. one_more k B))
 
-pub rounds_all : (g : Graph) (c : ℕ) {k reached : ℕ} → Upto (rounds (child_kind g) c) k reached → kinds ≤ k → reached ≡ image (reachable g) c
+pub rounds_all : (g : Graph) (c : ℕ) {reached : ℕ} → reached ≡ rounds (child_kind g) c kinds → reached ≡ image (reachable g) c
 unfolding rounds reachable closure
-rounds_all g c u l = upto_all (rounds (child_kind g) c) u l
+rounds_all g c h = h
 
 -- steps begin with one step
 begins : {P : Type 0} {r : Relation} {v w : ℕ} → ((u : ℕ) → r v u ≡ true → P) → OneOrMore r v w → P
@@ -161,8 +140,8 @@ module _ (g : Graph) (long : length g.children ≡ types) where
       both_in kinds (bit (mask kinds only)) (λ A. reachable g A B) v l (bit_mask kinds only v l ∙ eq-eqb v v refl) e)
 
   pub live_all : {p root reached top : ℕ} → p ≡ g.root → root ≡ mask kinds (λ A. eqb A p) → reached ≡ image (reachable g) root → top ≡ mask kinds (λ A. eqb A document)
-      → bit_or top (bit_or root reached) ≡ mask kinds (live g)
+      → bit_or (bit_or top root) reached ≡ mask kinds (live g)
   unfolding live
-  live_all i p q e = rw (e, q, p, i, image_single g.root, mask_or kinds, mask_or kinds)
+  live_all i p q e = rw (e, q, p, i, image_single g.root, mask_or kinds, mask_or kinds) (mask_cong kinds _ _ (λ A a. or_assoc (eqb A document) _ _))
 
-pub ruleset laws = (single_none, single_one, document_children, type_children, row_chosen, none_chosen, image_none, image_more, image_all, rounds_none, rounds_more, rounds_all, live_all, rules)
+pub ruleset laws = (single_one, document_children, type_children, image_none, image_more, rounds_none, rounds_more, rounds_all)

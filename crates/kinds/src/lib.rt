@@ -7,16 +7,13 @@ ghost use Rattle.meaning.specs.Sets.{bit, mask};
 ghost use Rattle.meaning.specs.Graphs.{child_kind, reachable, live};
 ghost use Rattle.meaning.specs.Translation.{image};
 
-use meaning::Graph;
+use meaning::{Graph, KINDS, TYPES};
 
-// Types are numbered below this.
-const TYPES: usize = 16;
 // The kind of the document node.
 const DOCUMENT: usize = 16;
-// Kinds are numbered below this.
-const KINDS: usize = 17;
 
 // Whether the kind is in the set.
+#[tactic(auto, using(meaning::proofs::Bits::bit_shifted))]
 pub fn has(set: u32, kind: usize) -> bool
     requires { kind < 32 }
     ensures { result ≡ bit set kind }
@@ -25,42 +22,36 @@ pub fn has(set: u32, kind: usize) -> bool
 }
 
 // Whether b is a child kind of a. Numbers that are no kinds have no edge.
+#[tactic(auto, using(crate::proofs::Edges::laws))]
 pub fn is_child(g: Graph, a: u8, b: u8) -> bool
     ensures { result ≡ child_kind g a b }
 {
-    let from = a as usize;
-    let to = b as usize;
+    let from = usize::from(a);
+    let to = usize::from(b);
     if from == DOCUMENT {
         return b == g.root;
     }
-    if TYPES <= from {
-        return false;
-    }
-    if TYPES <= to {
-        return false;
-    }
-    has(numbers::u16_to_u32(g.children[from]), to)
+    from < TYPES && to < TYPES && has(u32::from(g.children[from]), to)
 }
 
 // The set of one kind; of none, where the number is no kind.
+#[tactic(auto, using(crate::proofs::KindMasks::laws))]
 pub fn single(kind: usize) -> u32
     ensures { result ≡ mask kinds (λ A. eqb A kind) }
 {
-    if KINDS <= kind {
-        return 0;
-    }
-    1 << kind
+    if kind < KINDS { 1 << kind } else { 0 }
 }
 
 // The child kinds of one kind.
+#[tactic(auto, using(crate::proofs::KindMasks::laws))]
 pub fn child_kinds(g: Graph, kind: usize) -> u32
     requires { kind < kinds }
     ensures { result ≡ mask kinds (child_kind g kind) }
 {
     if kind == DOCUMENT {
-        return single(numbers::u8_to_usize(g.root));
+        return single(usize::from(g.root));
     }
-    numbers::u16_to_u32(g.children[kind])
+    u32::from(g.children[kind])
 }
 
 // The row of a kind, where the set has the kind; else no kinds.
@@ -72,28 +63,26 @@ pub fn chosen(set: u32, kind: usize, row: u32) -> u32
 }
 
 // The child kinds of the kinds in c.
+#[tactic(auto, using(crate::proofs::KindMasks::laws))]
 pub fn children(g: Graph, c: u32) -> u32
     ensures { result ≡ image (child_kind g) c }
 {
-    let mut found: u32 = 0;
-    let mut kind: usize = 0;
-    while kind < KINDS {
-        found = chosen(c, kind, child_kinds(g, kind)) | found;
-        kind += 1;
+    let mut found = 0;
+    for kind in 0..KINDS {
+        found |= chosen(c, kind, child_kinds(g, kind));
     }
     found
 }
 
 // The kinds reachable from those in c by one or more edges: each round adds the children of what the last one found, and
 // as many rounds as there are kinds are enough.
+#[tactic(auto, using(crate::proofs::KindMasks::laws))]
 pub fn reachable(g: Graph, c: u32) -> u32
     ensures { result ≡ image (reachable g) c }
 {
-    let mut reached: u32 = 0;
-    let mut round: usize = 0;
-    while round < KINDS {
+    let mut reached = 0;
+    for _ in 0..KINDS {
         reached = children(g, c | reached);
-        round += 1;
     }
     reached
 }
@@ -102,6 +91,6 @@ pub fn reachable(g: Graph, c: u32) -> u32
 pub fn live(g: Graph) -> u32
     ensures { result ≡ mask kinds (live g) }
 {
-    let root = single(numbers::u8_to_usize(g.root));
-    single(DOCUMENT) | (root | reachable(g, root))
+    let root = single(usize::from(g.root));
+    single(DOCUMENT) | root | reachable(g, root)
 }

@@ -5,7 +5,7 @@ ghost use Rattle.std.specs.Prelude.{◌≡◌, ◌+◌, ◌*◌, ◌≤◌, leng
 ghost use Rattle.meaning.specs.Limits.{small, element_limit, step_limit, room_bytes};
 
 use loading::load;
-use meaning::{Answer, SMALL};
+use meaning::{Answer, SMALL, STEPS};
 use std::io;
 
 // The text is inside the buffer, as the contract of the call that wrote it says; to ask once more spares main a contract of
@@ -34,7 +34,7 @@ fn print(rt: &impl Print, answer: Answer, listing: &[u8]) -> io::Result<()> {
 // What a listing and its work area can take: a line for each node and one before them, and a room for each step.
 const TEXT: usize = 13 * (SMALL.elements + 2);
 
-const WORK: usize = 2048 * 24;
+const WORK: usize = 2048 * STEPS;
 
 // The listing of what the query selects. With this much lent, want of room is never the answer.
 fn listed(gra: &[u8], edg: &[u8], qry: &[u8], text: &mut [u8], work: &mut [u8]) -> Answer

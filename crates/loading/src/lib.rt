@@ -13,6 +13,7 @@ fn fill<R: Read>(reader: &mut R, buffer: &mut [u8]) -> usize
     ensures { result ≤ length buffer.new }
 {
     let mut done: usize = 0;
+    // No `for`: how far a read comes is the reader's.
     while done < buffer.len() {
         match reader.read(&mut buffer[done..]) {
             Ok(n) if 0 < n => done += n,

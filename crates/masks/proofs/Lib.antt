@@ -1,5 +1,5 @@
 pub mod Rows
 pub mod Algebra
-pub mod Operations
 pub mod Announcement
+pub mod Operations
 pub mod Loop

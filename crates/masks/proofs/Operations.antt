@@ -1,4 +1,4 @@
--- One law for each operation: what is made for it shows its pairs.
+-- What is made for TABLE, SELF and TEXT shows their pairs; the other operations read steps.
 use Prim.Native.Nat.{ℕ, ◌<◌}
 use mathlib.Core.Path.{◌≡◌, sym, ap, ◌∙◌, fun_ext}
 use mathlib.Core.Bool.{true, not, ◌&&◌, cond}
@@ -6,14 +6,15 @@ use mathlib.Core.List.{List, []}
 use native.Mathlib.Omega.{arith}
 use lib.Bits.{bit_and}
 use lib.Dec.{eqb}
+use borrow.Author.Rules.{rules}
 use borrow.Author.Tests.{eqb-true, eqb-false, lt-ltb, not-true}
 use Rattle.meaning.specs.declared.Graph.{Graph}
 use Rattle.meaning.specs.declared.Operation.{Operation}
-use Rattle.meaning.specs.declared.Operation.TheVariants.{Table, Itself, Text, Join, Union, Closure, Has, Diff, Both}
+use Rattle.meaning.specs.declared.Operation.TheVariants.{Table, Itself, Text}
 use Rattle.meaning.specs.Limits.{kinds, types, document}
 use Rattle.meaning.specs.Sets.{bit, mask}
 use Rattle.meaning.specs.Inside.Diagonal.{diagonal}
-use Rattle.meaning.specs.Relations.{Relation, nothing, join, unite, has, intersection, closure, at}
+use Rattle.meaning.specs.Relations.{Relation, nothing}
 use Rattle.meaning.specs.Graphs.{LegalGraph, child_kind, live}
 use Rattle.meaning.specs.Documents.{is_text}
 use Rattle.meaning.specs.Announcements.{pairs}
@@ -25,12 +26,8 @@ use Rattle.meaning.proofs.Theorems.{text_0_announces_no_pairs}
 use Rattle.kinds.proofs.KindMasks.{chosen_bits}
 use Rattle.masks.specs.declared.Announced.{Announced}
 use Rattle.masks.specs.Announcement.{rel_of}
-use Rattle.masks.specs.Inside.Pairs.{operands_of}
+use Rattle.masks.proofs.Announcement.{read_shown}
 use Rattle.masks.proofs.Rows.{FromKinds}
-use Rattle.masks.proofs.Algebra.{algebra}
-
-pub read_as : {o p : Operation} {x : ℕ × ℕ} → o ≡ p → x ≡ operands_of p → x ≡ operands_of o
-read_as e h = h ∙ ap operands_of (sym e)
 
 -- the kinds but the document node's
 no_document : (A : ℕ) → A < kinds → bit 0xFFFF A ≡ not (eqb A document)
@@ -64,10 +61,6 @@ module _ (g : Graph) (legal : LegalGraph g) where
 
   -- what is made for an operation o, from the results ps so far, shows its pairs
   module _ (ps : List Relation) (o : Operation) (r : Announced) where
-    pub table_shown : {m : ℕ} → o ≡ Table m → rel_of r ≡ pairs g [] (Table m) → rel_of r ≡ pairs g ps o
-    unfolding pairs
-    table_shown e h = h ∙ rw e
-
     pub itself_shown : (l : ℕ) → o ≡ Itself → l ≡ mask kinds (live g) → rel_of r ≡ diagonal (bit l) → rel_of r ≡ pairs g ps o
     unfolding pairs diagonal
     itself_shown l e q h = h ∙ rw (e, live_bits l q)
@@ -81,30 +74,8 @@ module _ (g : Graph) (legal : LegalGraph g) where
         h ∙ rw e (fun_ext λ A. fun_ext λ B. ap (λ t. eqb A B && t) (bit_and_lem A l 0xFFFF
         ∙ rw (live_bits l q, lt-ltb 0 c (omega arith)) (and_where (live g A) (λ k. no_document A (live_small g legal A k)))))
 
-    pub diff_shown : {a b : ℕ} → o ≡ Diff a b → rel_of r ≡ at ps (operands_of o).0 → rel_of r ≡ pairs g ps o
-    unfolding pairs
-    diff_shown e h = h ∙ rw e
+-- what the operations ask, and what they read
+pub ruleset reading = (read_shown, live_kinds, some_kinds)
 
-    module _ (x : Announced) {a : ℕ} (p : rel_of x ≡ at ps (operands_of o).0) where
-      pub closure_shown : o ≡ Closure a → rel_of r ≡ closure kinds (rel_of x) → rel_of r ≡ pairs g ps o
-      unfolding pairs
-      closure_shown e h = h ∙ rw (p, e)
-
-      pub has_shown : o ≡ Has a → rel_of r ≡ has kinds (rel_of x) → rel_of r ≡ pairs g ps o
-      unfolding pairs
-      has_shown e h = h ∙ rw (p, e)
-
-      module _ (y : Announced) {b : ℕ} (q : rel_of y ≡ at ps (operands_of o).1) where
-        pub join_shown : o ≡ Join a b → rel_of r ≡ join kinds (rel_of x) (rel_of y) → rel_of r ≡ pairs g ps o
-        unfolding pairs
-        join_shown e h = h ∙ rw (p, q, e)
-
-        pub union_shown : o ≡ Union a b → rel_of r ≡ unite (rel_of x) (rel_of y) → rel_of r ≡ pairs g ps o
-        unfolding pairs
-        union_shown e h = h ∙ rw (p, q, e)
-
-        pub both_shown : o ≡ Both a b → rel_of r ≡ intersection (rel_of x) (rel_of y) → rel_of r ≡ pairs g ps o
-        unfolding pairs
-        both_shown e h = h ∙ rw (p, q, e)
-
-pub ruleset laws = (read_as, live_kinds, some_kinds, table_row, table_from, table_shown, itself_shown, text_none_shown, text_shown, diff_shown, closure_shown, has_shown, join_shown, union_shown, both_shown, algebra)
+-- what those announce that read no step
+pub ruleset showing = (itself_shown, text_none_shown, text_shown, rules)

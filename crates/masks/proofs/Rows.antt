@@ -1,18 +1,19 @@
--- A loop that makes an announcement row by row.
-use Prim.Native.Nat.{ℕ, ◌+◌, ◌<◌, ◌≤◌}
-use mathlib.Core.Path.{◌≡◌, sym, ap, ◌∙◌, fun_ext}
+-- Announcements made row by row.
+use Prim.Native.Nat.{ℕ, zero, suc, ◌+◌, ◌<◌, ◌≤◌}
+use mathlib.Core.Path.{◌≡◌, refl, sym, ap, subst, ◌∙◌, fun_ext}
 use mathlib.Core.Bool.{Bool, true}
 use mathlib.Core.List.{List}
-use native.Mathlib.Nat.{lt_of_not-le}
+use denote.Param.Members.{Mut, Called}
+use mathlib.Core.Logic.{⊎_elim}
+use native.Mathlib.Nat.{eq-or-lt_of_le, lt_of_not-le}
 use native.Mathlib.Omega.{arith}
-use lib.ListN.{length, get_or, set, length-set, get_or-eq_default}
-use lib.Seq.{get_or-set_same, get_or-set_other}
-use borrow.Author.Count.{below_more}
+use lib.ListN.{length, get_or, get_or-eq_default}
 use Rattle.meaning.specs.Limits.{kinds}
 use Rattle.meaning.specs.Sets.{bit}
 use Rattle.meaning.specs.Relations.{Relation}
 use Rattle.meaning.proofs.Tests.{never, same}
 use Rattle.meaning.proofs.Sets.{bit_none}
+use Rattle.std.specs.Array.{IsFromFnResult, IsFromFnResultFrom}
 use Rattle.masks.specs.declared.Announced.{Announced}
 use Rattle.masks.specs.Announcement.{rel_of}
 
@@ -31,24 +32,20 @@ pub from_same : {r s : Relation} → FromKinds r → FromKinds s → ((A B : ℕ
 from_same {r} {s} a b h =
     fun_ext λ A. fun_ext λ B. same (r A B) (s A B) (λ e. sym (h A B (a.from A B e)) ∙ e) (λ e. h A B (b.from A B e) ∙ e)
 
--- the rows of the kinds below i are made
-pub record Rows (r : Relation) (xs : List ℕ) (i : ℕ) : Type 0 where
-  pub most : i ≤ kinds
-  pub long : length xs ≡ kinds
-  pub done : (A : ℕ) → A < i → bit (get_or xs A 0) ≡ r A
+-- an announcement made row by row: each call gives the row of a kind and leaves the closure as it was
+module _ {F : Type 0} (g : Mut F (ℕ × Unit {0}) ℕ) (f : F) {r : Relation} (small : FromKinds r)
+    (each : (A row : ℕ) (q : F) → A < kinds → Called g f (A, tt) row q → (bit row ≡ r A) × (q ≡ f)) where
+  rows_from : (xs : List ℕ) (n A : ℕ) → A + n ≡ kinds → (p : F) → p ≡ f → IsFromFnResultFrom g p xs A n → (B : ℕ) → A ≤ B → B < kinds → bit (get_or xs B 0) ≡ r B
+  rows_from xs zero A e p s t B a b = absurd (omega arith)
+  rows_from xs (suc n) A e p s t B a b =
+      let now : (bit t.1 ≡ r A) × (t.0 ≡ f) = each A t.1 t.0 (omega arith) (subst (λ (x : F). Called g x (A, tt) t.1 t.0) s t.3) in
+      ⊎_elim
+      (λ (q : A ≡ B). rw (← q) (ap bit (t.2.1 0) ∙ now.0))
+      (λ (l : A < B). rows_from xs n (A + 1) (omega arith) t.0 now.1 t.4 B (omega arith) b)
+      (eq-or-lt_of_le a)
 
-module _ {r : Relation} {xs : List ℕ} where
-  pub rows_none : length xs ≡ kinds → Rows r xs 0
-  rows_none l = record { most = omega arith; long = l; done = λ A h. absurd (omega arith) }
-
-  pub rows_more : {i : ℕ} (m : ℕ) → i < kinds → Rows r xs i → bit m ≡ r i → Rows r (set xs i m) (i + 1)
-  rows_more {i} m l h e = record {
-    most = omega arith;
-    long = length-set xs i m ∙ h.long;
-    done = below_more (λ A. bit (get_or (set xs i m) A 0) ≡ r A) i
-        (λ A k. rw (get_or-set_other xs i A m 0 (λ q. omega arith)) (h.done A k)) (rw (get_or-set_same xs i m 0 (omega (arith, h.long))) e);
-  }
-
-pub rows_all : {r : Relation} (a : Announced) {i : ℕ} → Rows r a.pairs i → kinds ≤ i → FromKinds r → rel_of a ≡ r
-unfolding rel_of
-rows_all a h l small = from_same (pairs_from a h.long) small (λ A B k. ap (λ (f : ℕ → Bool). f B) (h.done A (omega arith)))
+  pub rows_made : (xs : List ℕ) → IsFromFnResult g f xs kinds → rel_of (record { pairs = xs }) ≡ r
+  unfolding rel_of
+  rows_made xs t =
+      from_same (pairs_from (record { pairs = xs }) t.long) small
+      (λ A B l. ap (λ (s : ℕ → Bool). s B) (rows_from xs kinds 0 refl f refl t.each A (omega arith) l))

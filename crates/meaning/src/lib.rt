@@ -4,12 +4,21 @@
 ghost use Rattle.std.specs.Prelude.{◌≡◌};
 ghost use Rattle.meaning.specs.Refused.{number_of};
 
+// Kinds are numbered below this: the types, and the document node's.
+pub const KINDS: usize = 17;
+
+// Types are numbered below this.
+pub const TYPES: usize = 16;
+
+// Steps of a program are numbered below this.
+pub const STEPS: usize = 24;
+
 // A graph of k types: bit t of children[s] is set when type t may be a child of type s. The masks from k on are 0.
 #[derive(Clone, Copy)]
 pub struct Graph {
     pub k: u8,
     pub root: u8,
-    pub children: [u16; 16],
+    pub children: [u16; TYPES],
 }
 
 // An element: its parent's number (0 is the document node), its type and its text number.
@@ -61,7 +70,7 @@ pub struct Step {
 #[derive(Clone, Copy)]
 pub struct Program {
     pub count: usize,
-    pub steps: [Step; 24],
+    pub steps: [Step; STEPS],
 }
 
 // Why input is turned away.
@@ -87,13 +96,6 @@ pub struct Refusal {
     pub reason: Reason,
 }
 
-// How a reading came out; what was read stands beside it.
-#[derive(Clone, Copy)]
-pub enum Outcome {
-    Accepted,
-    Refused(Refusal),
-}
-
 // What a call answers: 0 and a count, or the number of a reason and 0.
 #[repr(C)]
 #[derive(Clone, Copy)]
@@ -103,21 +105,23 @@ pub struct Answer {
 }
 
 // The number by which a caller knows the reason.
-pub fn number(reason: Reason) -> u8
-    ensures { result ≡ number_of reason }
-{
-    match reason {
-        Reason::Ended => 1,
-        Reason::Mark => 2,
-        Reason::Version => 3,
-        Reason::Bound => 4,
-        Reason::Code => 5,
-        Reason::Kind => 6,
-        Reason::Edge => 7,
-        Reason::Number => 8,
-        Reason::Operand => 9,
-        Reason::Extra => 10,
-        Reason::Steps => 11,
-        Reason::Room => 12,
+impl From<Reason> for u8 {
+    ghost from_gives = { λ r n. n ≡ number_of r };
+
+    fn from(reason: Reason) -> u8 {
+        match reason {
+            Reason::Ended => 1,
+            Reason::Mark => 2,
+            Reason::Version => 3,
+            Reason::Bound => 4,
+            Reason::Code => 5,
+            Reason::Kind => 6,
+            Reason::Edge => 7,
+            Reason::Number => 8,
+            Reason::Operand => 9,
+            Reason::Extra => 10,
+            Reason::Steps => 11,
+            Reason::Room => 12,
+        }
     }
 }

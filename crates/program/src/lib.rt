@@ -1,166 +1,110 @@
 // The program file's reader. A step's fields are read as the table of layouts says.
 #![tactic(auto)]
 
-ghost use Rattle.std.specs.Prelude.{◌≡◌, ◌≤◌};
-ghost use Rattle.fields.specs.Inside.Outcomes.{read_of, beside};
-ghost use Rattle.fields.specs.Read.{ended};
+ghost use Rattle.std.specs.Prelude.{◌≡◌, ◌<◌, ◌≤◌, IfOk};
+ghost use Rattle.meaning.specs.Limits.{step_limit};
+ghost use Rattle.meaning.specs.Inside.Records.{program_of, Numbered};
+ghost use Rattle.fields.specs.Inside.Outcomes.{read_of, file_of};
+ghost use Rattle.fields.specs.Read.{mapped};
 ghost use Rattle.rel.specs.Rel.{read_x, read_y, operation_of, step_read, steps_read, program_file};
-ghost use Rattle.program.specs.Inside.ProgramRead.{FitsLayout, refused_by, program_read, ReadsProgram};
+ghost use Rattle.program.specs.Inside.Operands.{x_limit, FitsLayout};
 
 use fields::{Cursor, Field};
-use meaning::{Operation, Outcome, Program, Reason, Step};
-use numbers::low;
+use meaning::{Operation, Program, Reason, Refusal, STEPS, Step};
 use rel::Layout;
 
-// How reading the file came out; a program with no steps stands beside a refusal.
-#[derive(Clone, Copy)]
-pub struct ProgramRead {
-    pub outcome: Outcome,
-    pub program: Program,
-}
-
-// A step's operation as it was read, and where reading goes on; SELF stands beside a refusal.
-#[derive(Clone, Copy)]
-struct StepRead {
-    passed: Field,
-    operation: Operation,
-}
-
-// The program with no steps.
-pub const EMPTY: Program = Program {
-    count: 0,
-    steps: [Step {
-        number: 0,
-        operation: Operation::Itself,
-    }; 24],
+// What stands in the places that a program does not use.
+const BLANK: Step = Step {
+    number: 0,
+    operation: Operation::Itself,
 };
 
-fn read_x(s: &[u8], c: Cursor, layout: Layout, k: u8, number: u8) -> Field
-    ensures { read_of result ≡ read_x k number layout s.now c.at }
+// A byte where a word may stand as well.
+fn widened(field: Field<u8>) -> Field<u16>
+    ensures value { read_of result ≡ read_of field }
+    ensures room { IfOk result (λ x. x.0 < 256) }
+{
+    field.map(|(n, next)| (u16::from(n), next))
+}
+
+fn read_x(s: &[u8], c: Cursor, layout: Layout, k: u8, number: u8) -> Field<u16>
+    ensures value { read_of result ≡ read_x k number layout s.now c.at }
+    ensures room { IfOk result (λ x. x.0 < x_limit layout) }
 {
     match layout {
-        Layout::Zeros => c.byte_below(s, 1, Reason::Extra),
-        Layout::Single => c.byte_below(s, number, Reason::Operand),
-        Layout::Pair => c.byte_below(s, number, Reason::Operand),
+        Layout::Zeros => widened(c.byte_below(s, 1, Reason::Extra)),
+        Layout::Single | Layout::Pair => widened(c.byte_below(s, number, Reason::Operand)),
         Layout::Number => c.word(s),
         Layout::Mask => c.mask_below(s, k),
     }
 }
 
-fn read_y(s: &[u8], c: Cursor, layout: Layout, number: u8) -> Field
+fn read_y(s: &[u8], c: Cursor, layout: Layout, number: u8) -> Field<u8>
     ensures { read_of result ≡ read_y number layout s.now c.at }
 {
     match layout {
-        Layout::Zeros => c.byte_below(s, 1, Reason::Extra),
-        Layout::Single => c.byte_below(s, 1, Reason::Extra),
+        Layout::Zeros | Layout::Single => c.byte_below(s, 1, Reason::Extra),
         Layout::Pair => c.byte_below(s, number, Reason::Operand),
-        Layout::Number => Field::Got(0, c),
-        Layout::Mask => Field::Got(0, c),
+        Layout::Number | Layout::Mask => Ok((0, c)),
     }
 }
 
-// The operation of a code, with x and y. An operand is a byte, so its low byte is all of it.
-fn operation(code: u16, x: u16, y: u16) -> Operation
-    requires { FitsLayout code x y }
+// The operation of a code, with x and y. An operand is a byte.
+fn operation(code: u8, x: u16, y: u8) -> Operation
+    requires { FitsLayout code x }
     ensures { result ≡ operation_of code x y }
 {
-    let a = low(x);
-    let b = low(y);
     match code {
         1 => Operation::Table(x),
         2 => Operation::Itself,
         3 => Operation::Text(x),
-        4 => Operation::Join(a, b),
-        5 => Operation::Union(a, b),
-        6 => Operation::Closure(a),
-        7 => Operation::Has(a),
-        8 => Operation::Diff(a, b),
-        _ => Operation::Both(a, b),
+        4 => Operation::Join(x as u8, y),
+        5 => Operation::Union(x as u8, y),
+        6 => Operation::Closure(x as u8),
+        7 => Operation::Has(x as u8),
+        8 => Operation::Diff(x as u8, y),
+        9 => Operation::Both(x as u8, y),
+        _ => unreachable!(),
     }
 }
 
-fn step(s: &[u8], c: Cursor, k: u8, number: u8) -> StepRead
-    ensures { beside result.passed result.operation ≡ step_read k number s.now c.at }
+#[tactic(auto, unfolding(fields::specs::Read::byte, fields::specs::Read::judged, rel::specs::Rel::step_read))]
+fn step(s: &[u8], c: Cursor, k: u8, number: u8) -> Field<Operation>
+    ensures { read_of result ≡ step_read k number s.now c.at }
 {
-    let code_read = c.byte_up_to(s, rel::LAST_CODE, Reason::Code);
-    let Field::Got(code, after_code) = code_read else {
-        return StepRead {
-            passed: code_read,
-            operation: Operation::Itself,
-        };
-    };
-    let layout = rel::layout_of(code);
-    let x_read = read_x(s, after_code, layout, k, number);
-    let Field::Got(x, after_x) = x_read else {
-        return StepRead {
-            passed: x_read,
-            operation: Operation::Itself,
-        };
-    };
-    let y_read = read_y(s, after_x, layout, number);
-    let Field::Got(y, _) = y_read else {
-        return StepRead {
-            passed: y_read,
-            operation: Operation::Itself,
-        };
-    };
-    StepRead {
-        passed: y_read,
-        operation: operation(code, x, y),
-    }
+    let (code, after_code) = c.byte_up_to(s, rel::LAST_CODE, Reason::Code)?;
+    let layout = rel::layout_of(u16::from(code));
+    let (x, after_x) = read_x(s, after_code, layout, k, number)?;
+    let (y, after_y) = read_y(s, after_x, layout, number)?;
+    Ok((operation(code, x, y), after_y))
 }
 
-// A field turned the file away.
-fn refused(field: Field) -> ProgramRead
-    ensures { result ≡ refused_by field }
+// The steps of a file. They fill an array from its first place on, with their count beside it: there is no heap.
+#[tactic(auto, using(crate::proofs::Loop::upto_step))]
+fn steps(s: &[u8], first: Cursor, k: u8, count: u8) -> Field<Program>
+    requires { count ≤ step_limit }
+    ensures { read_of result ≡ mapped program_of (steps_read k 0 count s.now first.at) }
 {
-    ProgramRead {
-        outcome: fields::outcome(field),
-        program: EMPTY,
-    }
-}
-
-// The steps of a file, and then its end.
-fn steps(s: &[u8], first: Cursor, k: u8, count: usize) -> ProgramRead
-    requires { count ≤ 24 }
-    ensures { result ≡ program_read (ended (steps_read k 0 count) s.now first.at) }
-{
-    let mut program = EMPTY;
+    let mut steps = [BLANK; STEPS];
     let mut c = first;
-    while program.count < count {
-        let at = program.count;
-        let number = at as u8;
-        let read = step(s, c, k, number);
-        let passed = read.passed;
-        let Field::Got(_, next) = passed else {
-            return refused(passed);
-        };
-        let operation = read.operation;
-        program.steps[at] = Step { number, operation };
-        program.count = at + 1;
+    for number in 0..count {
+        let (operation, next) = step(s, c, k, number)?;
+        steps[usize::from(number)] = Step { number, operation };
         c = next;
     }
-    let passed = c.end(s);
-    let Field::Got(_, _) = passed else {
-        return refused(passed);
-    };
-    ProgramRead {
-        outcome: Outcome::Accepted,
-        program,
-    }
+    let count = usize::from(count);
+    Ok((Program { count, steps }, c))
 }
 
 // The program of a file: its operations, each beside its step's place as its number.
-pub fn read(s: &[u8], k: u8) -> ProgramRead
-    ensures { ReadsProgram result (program_file k s.now 0) }
+#[tactic(auto, using(meaning::proofs::Records::program_numbered), unfolding(fields::specs::Read::mapped, fields::specs::Read::byte, fields::specs::Read::judged, rel::specs::Rel::program, rel::specs::Rel::program_file))]
+pub fn read(s: &[u8], k: u8) -> Result<Program, Refusal>
+    ensures value { result ≡ file_of (mapped program_of (program_file k s.now 0)) }
+    ensures numbered { IfOk result Numbered }
 {
-    let headed = Cursor::start().header(s, b'R', b'E', b'L', 1);
-    let Field::Got(_, after) = headed else {
-        return refused(headed);
-    };
-    let counted = after.byte_up_to(s, 24, Reason::Bound);
-    let Field::Got(count, first) = counted else {
-        return refused(counted);
-    };
-    steps(s, first, k, count as usize)
+    let (_, after) = Cursor::start().header(s, b'R', b'E', b'L', 1)?;
+    let (count, first) = after.byte_up_to(s, STEPS as u8, Reason::Bound)?;
+    let (program, last) = steps(s, first, k, count)?;
+    last.end(s)?;
+    Ok(program)
 }

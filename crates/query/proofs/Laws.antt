@@ -1,207 +1,137 @@
--- One law for each way in which the readers' code returns, over paths and qualifiers alike.
+-- How many nodes are left, as the readers' code counts them: behind a node's code, what its part takes.
 use Prim.Native.Nat.{ℕ, zero, suc, ◌-◌, ◌≤◌, ◌<◌}
 use mathlib.Core.List.{List}
 use mathlib.Core.Path.{◌≡◌, refl, sym, ap, ◌∙◌}
 use native.Mathlib.Omega.{arith}
-use borrow.Author.Rules.{rules}
-use borrow.Author.Tests.{lt-ltb, ne_eqb}
-use Rattle.meaning.specs.declared.Reason.TheVariants.{Bound, Code}
-use Rattle.meaning.specs.declared.Refusal.{Refusal}
-use Rattle.meaning.specs.declared.Outcome.TheVariants as outcome
-use Rattle.meaning.specs.declared.Outcome.TheVariants.{Accepted}
+use Rattle.std.proofs.Common.{◌⊎◌}
+use Rattle.meaning.specs.declared.Reason.TheVariants.{Code}
 use Rattle.meaning.specs.Limits.{query_limit}
 use Rattle.meaning.specs.Queries.{XPath}
-use Rattle.fields.specs.declared.Cursor.{Cursor}
-use Rattle.fields.specs.declared.Field.{Field}
-use Rattle.fields.specs.declared.Field.TheVariants.{Got, Refused}
-use Rattle.fields.specs.Inside.Outcomes.{read_of, passed}
-use Rattle.fields.specs.Read.{Read, Reader, got, refused, bind, refusal_of, byte, header, end}
-use Rattle.fields.proofs.Laws.{taken, handed}
-use Rattle.fields.proofs.Formats.{refused_out, got_same}
-use Rattle.query.specs.Qry.{Sort, path, qualifier, Tree, Follows, leaf, field, one, two, unknown, codes, following, node_code, part, query_file}
-use Rattle.query.specs.Inside.PartsRead.{left_of, PartRead, Then, goes_on, ends, leaving, query_read}
-use Rattle.query.proofs.Parts.{Counted, counted, ended, part_counted, query_counted}
+use Rattle.fields.specs.Inside.Outcomes.{file_of}
+use Rattle.fields.specs.Read.{Read, Reader, got, refused, bind, mapped, refusal_of, give, refuse, ◌>>=◌, ◌>>◌, header, end}
+use Rattle.fields.proofs.Formats.{refused_out}
+use Rattle.query.specs.Qry.{Sort, path, qualifier, Tree, PartReader, Follows, leaf, field, one, two, unknown, codes, following, node_code, part, query_file}
+use Rattle.query.specs.Inside.PartsRead.{left_of, part_left}
+use Rattle.query.proofs.Parts.{Counted, counted, ended, part_counted}
 
--- What a reading was of which only the nodes left are known.
-left_got : {A : Type 0} (e : Read (A × ℕ)) {l at : ℕ} → left_of e ≡ got l at → (a : A) × (e ≡ got (a, l) at)
-left_got (got p n) h = (p.0, rw (← (got_same h).0, ← (got_same h).1))
-left_got (refused r) h = refused_out h
+-- what is left behind what follows a code at a place, where n nodes are allowed behind the code
+abbrev pub follow_left : ℕ → ℕ → {σ : Sort} → Follows σ → ℕ → Reader ℕ
+follow_left k place (leaf t) n = give n
+follow_left k place (field m f) n = m >> give n
+follow_left k place (one τ f) n = part_left k τ n
+follow_left k place (two τ υ f) n = part_left k τ n >>= part_left k υ
+follow_left k place unknown n = λ s _. refuse Code s place
 
-left_refused : {A : Type 0} (e : Read (A × ℕ)) {r : Refusal} → left_of e ≡ refused r → e ≡ refused r
-left_refused (got p n) h = refused_out (sym h)
-left_refused (refused q) h = cc
+left_fewer : {σ : Sort} {n : ℕ} {e : Read (Tree σ × ℕ)} {l at : ℕ} → Counted σ n e → left_of e ≡ got l at → l < n
+left_fewer {l = l} (counted {p} h) q = let i : p.1 ≡ l = cc in omega arith
+left_fewer ended q = refused_out q
 
-fewer_left : {σ : Sort} {n : ℕ} {e : Read (Tree σ × ℕ)} {l at : ℕ} → Counted σ n e → left_of e ≡ got l at → l < n
-fewer_left {l = l} (counted {p} h) q = let i : p.1 ≡ l = cc in omega arith
-fewer_left ended q = refused_out q
+part_fewer : (k : ℕ) (σ : Sort) (n : ℕ) (s : List ℕ) (at : ℕ) {l next : ℕ} → part_left k σ n s at ≡ got l next → l < n
+unfolding part_left
+part_fewer k σ n s at h = left_fewer (part_counted k n σ n s at) h
 
--- The code of a node.
-code_bound : (n : ℕ) (s : List ℕ) (at : ℕ) → n ≡ 0 → node_code n s at ≡ refused (refusal_of Bound at)
-unfolding node_code
-code_bound n s at z = rw z
+-- what is left behind a field and what follows it
+behind_field : {A : Type 0} (e : Read ℕ) (m : ℕ → ℕ → Read (A × ℕ)) (l : ℕ → ℕ → Read ℕ) → ((v at : ℕ) → left_of (m v at) ≡ l v at) → left_of (bind e m) ≡ bind e l
+behind_field (got v at) m l h = h v at
+behind_field (refused r) m l h = refl
 
-allowed : (n : ℕ) (s : List ℕ) (at : ℕ) {v e : ℕ} → node_code n s at ≡ got v e → 1 ≤ n
-unfolding node_code
-allowed zero s at h = refused_out h
-allowed (suc n) s at h = omega arith
+-- what is left behind a part and what follows it
+behind_part : {A B : Type 0} (e : Read (A × ℕ)) (m : A × ℕ → ℕ → Read (B × ℕ)) (l : ℕ → ℕ → Read ℕ)
+    → ((p : A × ℕ) (at : ℕ) → e ≡ got p at → left_of (m p at) ≡ l p.1 at) → left_of (bind e m) ≡ bind (left_of e) l
+behind_part (got p at) m l h = h p at refl
+behind_part (refused r) m l h = refl
 
-module _ (n : ℕ) (s : List ℕ) (at : ℕ) (x : Field) where
-  pub code_none : n ≡ 0 → x ≡ Refused (refusal_of Bound at) → read_of x ≡ node_code n s at
-  code_none z q = ap read_of q ∙ sym (code_bound n s at z)
+-- a part with something made of it
+made_left : {A B : Type 0} (f : A → B) (e : Read (A × ℕ)) → left_of (bind e (λ a at. got (f a.0, a.1) at)) ≡ left_of e
+made_left f (got p at) = refl
+made_left f (refused r) = refl
 
-  pub code_some : (n ≡ 0 → ⊥) → read_of x ≡ byte s at → read_of x ≡ node_code n s at
-  unfolding node_code
-  code_some h p = simp (lt-ltb 0 n (omega arith)) p
+-- what follows a code, read by any parts that leave as many nodes as deep enough ones do
+module _ (k : ℕ) (parts : (τ : Sort) → PartReader τ) (n : ℕ) (P : (τ : Sort) (m : ℕ) → m ≤ n → (s : List ℕ) (at : ℕ) → left_of (parts τ m s at) ≡ part_left k τ m s at) where
+  first : (τ : Sort) (s : List ℕ) (at : ℕ) → left_of (parts τ n s at) ≡ part_left k τ n s at
+  first τ = P τ n (omega arith)
 
-  module _ (p : read_of x ≡ node_code n s at) {v : ℕ} {c : Cursor} (q : x ≡ Got v c) where
-    pub code_allowed : 1 ≤ n
-    code_allowed = allowed n s at (taken p q)
+  followed : (place : ℕ) {σ : Sort} (r : Follows σ) (s : List ℕ) (at : ℕ) → left_of (following parts place r n s at) ≡ follow_left k place r n s at
+  followed place (leaf t) s at = refl
+  followed place (field m f) s at = behind_field (m s at) _ _ λ _ _. refl
+  followed place (one τ f) s at = made_left f (parts τ n s at) ∙ first τ s at
+  followed place (two τ υ f) s at =
+      behind_part (parts τ n s at) _ _
+      (λ p i e. let fewer = part_fewer k τ n s at (sym (first τ s at) ∙ ap left_of e) in made_left (f p.0) (parts υ p.1 s i) ∙ P υ p.1 (omega arith) s i)
+      ∙ ap (λ e. bind e (λ l i. part_left k υ l s i)) (first τ s at)
+  followed place unknown s at = refl
 
-    pub code_falls : {t : ℕ} → n ≡ t → n - 1 < t
-    code_falls e = let h = code_allowed in omega arith
+-- a part at most b deep, which is deep enough: the code of its node, and what follows
+deep : (k b f : ℕ) (σ : Sort) (n : ℕ) → f ≤ b → n ≤ f → (s : List ℕ) (at : ℕ)
+    → left_of (part k f σ n s at) ≡ bind (node_code n s at) (λ c next. follow_left k at (codes k σ c) (n - 1) s next)
+unfolding part node_code part_left
+deep k b zero σ zero g l s at = refl
+deep k b zero σ (suc n) g l s at = absurd (omega arith)
+deep k zero (suc f) σ n g l s at = absurd (omega arith)
+deep k (suc b) (suc f) σ n g l s at =
+    behind_field (node_code n s at) _ _ λ c next.
+    followed k (part k f) (n - 1)
+    (λ τ m i t from. deep k b f τ m (omega arith) (omega arith) t from ∙ sym (deep k b m τ m (omega arith) (omega arith) t from))
+    at (codes k σ c) s next
 
--- The answer for what follows the code at a place, where n nodes are allowed.
-pub data Answer (k place : ℕ) {σ : Sort} (n : ℕ) (s : List ℕ) (at : ℕ) : Follows σ → Field → Type 0 where
-  for_leaf : {t : Tree σ} {c : Cursor} → c.at ≡ at → Answer k place n s at (leaf t) (Got n c)
-  for_field : {m : Reader ℕ} {f : ℕ → Tree σ} (x : Field) {y : Field} → read_of x ≡ m s at → y ≡ leaving n x → Answer k place n s at (field m f) y
-  for_one : {τ : Sort} {f : Tree τ → Tree σ} {x : Field} → PartRead k τ n s at x → Answer k place n s at (one τ f) x
-  for_two : {τ υ : Sort} {f : Tree τ → Tree υ → Tree σ} {x y : Field} → PartRead k τ n s at x → Then k υ s x y → Answer k place n s at (two τ υ f) y
-  for_unknown : {x : Field} → x ≡ Refused (refusal_of Code place) → Answer k place n s at unknown x
+pub part_step : (k : ℕ) (σ : Sort) (n : ℕ) (s : List ℕ) (at : ℕ)
+    → part_left k σ n s at ≡ bind (node_code n s at) (λ c next. follow_left k at (codes k σ c) (n - 1) s next)
+unfolding part_left
+part_step k σ n s at = deep k n n σ n (omega arith) (omega arith) s at
 
-field_left : {A : Type 0} (f : ℕ → A) (n : ℕ) (x : Field) → read_of (leaving n x) ≡ left_of (bind (read_of x) (λ v at. got (f v, n) at))
-field_left f n (Got v c) = refl
-field_left f n (Refused r) = refl
+-- fewer nodes are left than were allowed
+abbrev pub Fewer : ℕ → Read ℕ → Type 0
+Fewer n (got l at) = l < n
+Fewer n (refused r) = Unit {0}
 
-one_left : {A B : Type 0} (f : A → B) (e : Read (A × ℕ)) → left_of e ≡ left_of (bind e (λ a at. got (f a.0, a.1) at))
-one_left f (got p at) = refl
-one_left f (refused r) = refl
+pub part_falls : (k : ℕ) (σ : Sort) (n : ℕ) (s : List ℕ) (at : ℕ) → (part_left k σ n s at ≡ part_left k σ n s at) × Fewer n (part_left k σ n s at)
+part_falls k σ n s at = (refl, go (part_left k σ n s at) refl)
+  where
+    go : (e : Read ℕ) → part_left k σ n s at ≡ e → Fewer n e
+    go (got l next) h = part_fewer k σ n s at h
+    go (refused r) h = tt
 
-module _ {k place : ℕ} (f : ℕ) where
-  answer_left : {σ : Sort} {n : ℕ} {s : List ℕ} {at : ℕ} {r : Follows σ} {x : Field} → n ≤ f → Answer k place n s at r x → read_of x ≡ left_of (following (part k f) place r n s at)
-  answer_left {n = n} le (for_leaf e) = ap (got n) e
-  answer_left {n = n} {s} {at} le (for_field {f = g} x p q) = ap read_of q ∙ rw (← p) (field_left g n x)
-  answer_left {n = n} {s} {at} le (for_one {τ} {f = g} P) = P.value f le ∙ one_left g (part k f τ n s at)
-  answer_left {n = n} {s} {at} le (for_two {τ} P ends) = simp (left_refused (part k f τ n s at) (sym (P.value f le)))
-  answer_left {n = n} {s} {at} le (for_two {τ} {υ} {f = g} P (goes_on {n = l} {c} S)) =
-      let (a, e) = left_got (part k f τ n s at) (sym (P.value f le)) in
-      let fewer = fewer_left (part_counted k f τ n s at) (sym (P.value f le)) in
-      S.value f (omega arith) ∙ one_left (g a) (part k f υ l s c.at) ∙ simp e
-  answer_left le (for_unknown q) = ap read_of q
+-- codes that are read alike
+module _ (k c place n : ℕ) (s : List ℕ) (at : ℕ) where
+  pub two_paths : 4 ≤ c → c ≤ 6 → follow_left k place (codes k path c) n s at ≡ bind (part_left k path n s at) (λ l next. part_left k path l s next)
+  two_paths l m = grind arith
 
--- A node: its code, and what follows.
-module _ {k : ℕ} {σ : Sort} {n : ℕ} {s : List ℕ} {at : ℕ} {x : Field} (p : read_of x ≡ node_code n s at) where
-  pub part_refused : {r : Refusal} → x ≡ Refused r → PartRead k σ n s at x
-  unfolding part
-  part_refused q = record { value = go }
-    where
-      go : (f : ℕ) → n ≤ f → read_of x ≡ left_of (part k f σ n s at)
-      go zero le = p ∙ code_bound n s at (omega arith)
-      go (suc f) le = p ∙ simp (handed p q)
+  pub two_qualifiers : 0x14 ≤ c → c ≤ 0x15 → follow_left k place (codes k qualifier c) n s at ≡ bind (part_left k qualifier n s at) (λ l next. part_left k qualifier l s next)
+  two_qualifiers l m = grind arith
 
-  module _ {v : ℕ} {c : Cursor} {y : Field} (q : x ≡ Got v c) where
-    pub part_answered : {w : ℕ} → v ≡ w → Answer k at (n - 1) s c.at (codes k σ w) y → PartRead k σ n s at y
-    unfolding part
-    part_answered e A = record { value = go }
-      where
-        go : (f : ℕ) → n ≤ f → read_of y ≡ left_of (part k f σ n s at)
-        go zero le = absurd (let h = code_allowed n s at x p q in omega arith)
-        go (suc f) le = answer_left f (omega arith) A ∙ simp (taken p q, e)
+  pub no_path : (c < 1) ⊎ (7 < c) → follow_left k place (codes k path c) n s at ≡ refused (refusal_of Code place)
+  no_path h = grind arith
 
--- What is no code of a path, or of a qualifier.
-module _ {k n : ℕ} {s : List ℕ} {at : ℕ} {x y : Field} {v : ℕ} {c : Cursor}
-    (p : read_of x ≡ node_code n s at) (q : x ≡ Got v c) (e : y ≡ Refused (refusal_of Code at)) where
-  pub path_other : (v ≡ 0x01 → ⊥) → (v ≡ 0x02 → ⊥) → (v ≡ 0x03 → ⊥) → (v ≡ 0x04 → ⊥) → (v ≡ 0x05 → ⊥) → (v ≡ 0x06 → ⊥) → (v ≡ 0x07 → ⊥)
-      → PartRead k path n s at y
-  path_other n1 n2 n3 n4 n5 n6 n7 =
-      part_answered p q refl
-      (simp (ne_eqb v _ n1, ne_eqb v _ n2, ne_eqb v _ n3, ne_eqb v _ n4, ne_eqb v _ n5, ne_eqb v _ n6, ne_eqb v _ n7) (for_unknown e))
+  pub no_qualifier : (c < 0x11) ⊎ (0x15 < c) → follow_left k place (codes k qualifier c) n s at ≡ refused (refusal_of Code place)
+  no_qualifier h = grind arith
 
-  pub qualifier_other : (v ≡ 0x11 → ⊥) → (v ≡ 0x12 → ⊥) → (v ≡ 0x13 → ⊥) → (v ≡ 0x14 → ⊥) → (v ≡ 0x15 → ⊥) → PartRead k qualifier n s at y
-  qualifier_other n1 n2 n3 n4 n5 =
-      part_answered p q refl (simp (ne_eqb v _ n1, ne_eqb v _ n2, ne_eqb v _ n3, ne_eqb v _ n4, ne_eqb v _ n5) (for_unknown e))
+-- a whole file has the nodes that its path does not leave
+module _ (k : ℕ) (s : List ℕ) where
+  -- how many nodes are read, and what is read of a path and the end behind it
+  abbrev nodes : XPath × ℕ → ℕ
+  nodes p = query_limit - p.1
 
--- The second of two parts.
-module _ {k : ℕ} {σ : Sort} {s : List ℕ} {x : Field} where
-  pub then_refused : {r : Refusal} → x ≡ Refused r → Then k σ s x x
-  then_refused q = rw q ends
+  abbrev with_end : XPath × ℕ → ℕ → Read (XPath × ℕ)
+  with_end p next = bind (end s next) λ _ last. got p last
 
-  pub then_got : {y : Field} {n : ℕ} {c : Cursor} → x ≡ Got n c → PartRead k σ n s c.at y → Then k σ s x y
-  then_got q P = rw q (goes_on P)
+  abbrev nodes_with_end : ℕ → ℕ → Read ℕ
+  nodes_with_end l next = bind (end s next) λ _ last. got (query_limit - l) last
 
--- What falls at each call: the nodes allowed, and behind a first part one more than it leaves.
-abbrev pub room : Field → ℕ
-room (Got n c) = suc n
-room (Refused r) = 0
+  behind_end : (p : XPath × ℕ) (e : Read (Unit {0})) → file_of (bind (bind e λ _ last. got p last) λ q last. got (nodes q) last) ≡ file_of (bind e λ _ last. got (nodes p) last)
+  behind_end p (got u n) = refl
+  behind_end p (refused r) = refl
 
-pub then_falls : {k : ℕ} {σ : Sort} (n : ℕ) (s : List ℕ) (at : ℕ) {x : Field} {v : ℕ} {c : Cursor} {y : Field} {t : ℕ}
-    → read_of x ≡ node_code n s at → x ≡ Got v c → PartRead k σ (n - 1) s c.at y → n ≡ t → room y < t
-then_falls {k} {σ} n s at {c = c} {y = Got l d} p q P e =
-    let m = n - 1 in
-    let h = fewer_left (part_counted k m σ m s c.at) (sym (P.value m (omega arith))) in
-    omega arith
-then_falls n s at {x} {y = Refused r} p q P e = let h = code_allowed n s at x p q in omega arith
+  behind_path : (e : Read (XPath × ℕ)) → file_of (mapped nodes (bind e with_end)) ≡ file_of (bind (left_of e) nodes_with_end)
+  unfolding mapped
+  behind_path (got p next) = behind_end p (end s next)
+  behind_path (refused r) = refl
 
-pub room_falls : {x : Field} {n t : ℕ} {c : Cursor} → x ≡ Got n c → room x ≡ t → n < t
-room_falls q e = let h = sym e ∙ ap room q in omega arith
+  behind_header : (e : Read ℕ) → file_of (mapped nodes (bind (bind e λ _ body. part k query_limit path query_limit s body) with_end))
+      ≡ file_of (bind e λ _ body. bind (part_left k path query_limit s body) nodes_with_end)
+  unfolding mapped part_left
+  behind_header (got v body) = behind_path (part k query_limit path query_limit s body)
+  behind_header (refused r) = refl
 
-pub leaving_got : (n : ℕ) (x : Field) {v : ℕ} {c : Cursor} → x ≡ Got v c → Got n c ≡ leaving n x
-leaving_got n x q = rw q
-
--- A whole file.
-end_left : (p : XPath × ℕ) (t : Read (Unit {0})) → bind (passed t) (λ _ n. got p n) ≡ bind t (λ _ n. got p n)
-end_left p (got _ n) = refl
-end_left p (refused r) = refl
-
-module _ (k : ℕ) (s : List ℕ) (at : ℕ) (z : at ≡ 0) (x : Field) (h : read_of x ≡ header 0x51 0x52 0x59 1 s at) where
-  pub file_unheaded : {r : Refusal} → x ≡ Refused r → read_of x ≡ left_of (query_file k s 0)
+  pub file_nodes : file_of (mapped nodes (query_file k s 0)) ≡ file_of (bind (header 0x51 0x52 0x59 1 s 0) λ _ body. bind (part_left k path query_limit s body) nodes_with_end)
   unfolding query_file
-  file_unheaded q = let i = rw z at h in i ∙ simp (handed i q)
-
-  module _ {u : ℕ} {b : Cursor} (q : x ≡ Got u b) (y : Field) (P : PartRead k path query_limit s b.at y) where
-    pub file_unread : {r : Refusal} → y ≡ Refused r → read_of y ≡ left_of (query_file k s 0)
-    unfolding query_file
-    file_unread i =
-        ap read_of i ∙ simp (taken (rw z at h) q, left_refused (part k query_limit path query_limit s b.at) (sym (P.value query_limit (omega arith)) ∙ ap read_of i))
-
-    pub file_ended : {l : ℕ} {a : Cursor} (w v : Field) → y ≡ Got l a → read_of w ≡ passed (end s a.at) → v ≡ leaving l w → read_of v ≡ left_of (query_file k s 0)
-    unfolding query_file
-    file_ended {l} {a} w v i e j =
-        let (t, whole) = left_got (part k query_limit path query_limit s b.at) (sym (P.value query_limit (omega arith)) ∙ ap read_of i) in
-        simp (taken (rw z at h) q, whole, ← end_left (t, l) (end s a.at), ← e) (ap read_of j ∙ field_left (λ _. t) l w)
-
--- What the caller has of it.
-pub read_fits : (k : ℕ) (s : List ℕ) (x : Field) → read_of x ≡ left_of (query_file k s 0) → {l : ℕ} {c : Cursor} → x ≡ Got l c → l ≤ query_limit
-read_fits k s x p q = let h = fewer_left (query_counted k s) (taken p q) in omega arith
-
-pub read_got : (x : Field) (e : Read (XPath × ℕ)) → read_of x ≡ left_of e → {l m : ℕ} {c : Cursor} → x ≡ Got l c → m ≡ query_limit - l → record { outcome = Accepted; nodes = m } ≡ query_read e
-read_got x e h q i = simp (i, (left_got e (taken h q)).1)
-
-pub read_refused : (x : Field) (e : Read (XPath × ℕ)) → read_of x ≡ left_of e → {r : Refusal} → x ≡ Refused r → record { outcome = outcome.Refused r; nodes = 0 } ≡ query_read e
-read_refused x e h q = simp (left_refused e (handed h q))
-
-pub ruleset laws = (
-  code_none,
-  code_some,
-  code_allowed,
-  code_falls,
-  for_leaf,
-  for_field,
-  for_one,
-  for_two,
-  part_refused,
-  part_answered,
-  path_other,
-  qualifier_other,
-  then_refused,
-  then_got,
-  then_falls,
-  room_falls,
-  leaving_got,
-  file_unheaded,
-  file_unread,
-  file_ended,
-  read_fits,
-  read_got,
-  read_refused,
-  rules,
-)
+  file_nodes = behind_header (header 0x51 0x52 0x59 1 s 0)

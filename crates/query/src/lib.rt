@@ -2,28 +2,25 @@
 // each reader answers how many nodes it leaves of those still allowed, and where reading goes on.
 #![tactic(auto)]
 
-ghost use Rattle.std.specs.Prelude.{◌≡◌};
-ghost use Rattle.fields.specs.Inside.Outcomes.{read_of};
+ghost use Rattle.std.specs.Prelude.{◌≡◌, ◌≤◌, ◌-◌, ℕ, OnOk};
+ghost use Rattle.meaning.specs.Limits.{query_limit};
+ghost use Rattle.meaning.specs.Queries.{XPath};
+ghost use Rattle.fields.specs.Inside.Outcomes.{read_of, file_of};
+ghost use Rattle.fields.specs.Read.{mapped};
 ghost use Rattle.query.specs.Qry.{path, qualifier, node_code, query_file};
-ghost use Rattle.query.specs.Inside.PartsRead.{left_of, PartRead, Then, leaving, query_read};
+ghost use Rattle.query.specs.Inside.PartsRead.{part_left};
 
 use fields::{Cursor, Field};
-use meaning::{Outcome, Reason};
-use numbers::u16_to_u8;
+use meaning::{Reason, Refusal};
 
 // The nodes that a query may have.
-const LIMIT: u16 = 24;
-
-// A query as its reader hands it on: how it came out, and how many nodes it has, 0 where it was refused.
-#[derive(Clone, Copy)]
-pub struct QueryRead {
-    pub outcome: Outcome,
-    pub nodes: u8,
-}
+const LIMIT: u8 = 24;
 
 // The code of a node, if one more is allowed.
-fn node_code(s: &[u8], c: Cursor, left: u16) -> Field
-    ensures { read_of result ≡ node_code left s.now c.at }
+#[tactic(auto, unfolding(crate::specs::Qry::node_code))]
+fn node_code(s: &[u8], c: Cursor, left: u8) -> Field<u8>
+    ensures value { read_of result ≡ node_code left s.now c.at }
+    ensures some { OnOk result (1 ≤ left) }
 {
     if left == 0 {
         return c.refuse(Reason::Bound);
@@ -31,104 +28,61 @@ fn node_code(s: &[u8], c: Cursor, left: u16) -> Field
     c.byte(s)
 }
 
-// The answer behind a field whose value is not kept: left nodes are still allowed.
-fn leaving(left: u16, field: Field) -> Field
-    ensures { result ≡ leaving left field }
+// A path, where left nodes are allowed. The codes are the file's bytes, as the table in specs/Qry has them.
+#[cycle(path_qualifier)]
+#[tactic(auto, using(crate::proofs::Laws::part_step, crate::proofs::Laws::part_falls, crate::proofs::Laws::no_path))]
+fn path(s: &[u8], c: Cursor, left: u8, k: u8) -> Field<u8>
+    ensures { read_of result ≡ part_left k path left s.now c.at }
 {
-    let Field::Got(_, next) = field else {
-        return field;
-    };
-    Field::Got(left, next)
-}
-
-// A path, where left nodes are allowed.
-#[cycle(path_qualifier_then_path_then_qualifier)]
-fn path(s: &[u8], c: Cursor, left: u16, k: u8) -> Field
-    ensures { PartRead k path left s.now c.at result }
-{
-    let coded = node_code(s, c, left);
-    let Field::Got(code, after) = coded else {
-        return coded;
-    };
+    let (code, after) = node_code(s, c, left)?;
     let rest = left - 1;
     match code {
-        0x01 => Field::Got(rest, after),
-        0x02 => leaving(rest, after.byte_below(s, k, Reason::Kind)),
-        0x03 => Field::Got(rest, after),
-        0x04 => then_path(s, path(s, after, rest, k), k),
-        0x05 => then_path(s, path(s, after, rest, k), k),
-        0x06 => then_path(s, path(s, after, rest, k), k),
-        0x07 => then_qualifier(s, path(s, after, rest, k), k),
+        0x01 | 0x03 => Ok((rest, after)),
+        0x02 => {
+            let (_, next) = after.byte_below(s, k, Reason::Kind)?;
+            Ok((rest, next))
+        }
+        0x04 | 0x05 | 0x06 => {
+            let (left, next) = path(s, after, rest, k)?;
+            path(s, next, left, k)
+        }
+        0x07 => {
+            let (left, next) = path(s, after, rest, k)?;
+            qualifier(s, next, left, k)
+        }
         _ => c.refuse(Reason::Code),
     }
 }
 
-#[cycle(path_qualifier_then_path_then_qualifier)]
-fn qualifier(s: &[u8], c: Cursor, left: u16, k: u8) -> Field
-    ensures { PartRead k qualifier left s.now c.at result }
+#[cycle(path_qualifier)]
+#[tactic(auto, using(crate::proofs::Laws::part_step, crate::proofs::Laws::part_falls, crate::proofs::Laws::two_qualifiers, crate::proofs::Laws::no_qualifier))]
+fn qualifier(s: &[u8], c: Cursor, left: u8, k: u8) -> Field<u8>
+    ensures { read_of result ≡ part_left k qualifier left s.now c.at }
 {
-    let coded = node_code(s, c, left);
-    let Field::Got(code, after) = coded else {
-        return coded;
-    };
+    let (code, after) = node_code(s, c, left)?;
     let rest = left - 1;
     match code {
         0x11 => path(s, after, rest, k),
-        0x12 => leaving(rest, after.word(s)),
+        0x12 => {
+            let (_, next) = after.word(s)?;
+            Ok((rest, next))
+        }
         0x13 => qualifier(s, after, rest, k),
-        0x14 => then_qualifier(s, qualifier(s, after, rest, k), k),
-        0x15 => then_qualifier(s, qualifier(s, after, rest, k), k),
+        0x14 | 0x15 => {
+            let (left, next) = qualifier(s, after, rest, k)?;
+            qualifier(s, next, left, k)
+        }
         _ => c.refuse(Reason::Code),
     }
 }
 
-// After the first of two parts, a path.
-#[cycle(path_qualifier_then_path_then_qualifier)]
-fn then_path(s: &[u8], first: Field, k: u8) -> Field
-    ensures { Then k path s.now first result }
+// How many nodes the query of a file has.
+#[tactic(auto, using(crate::proofs::Laws::file_nodes, crate::proofs::Laws::part_falls))]
+pub fn read(s: &[u8], k: u8) -> Result<u8, Refusal>
+    ensures { result ≡ file_of (mapped (λ (p : XPath × ℕ). query_limit - p.1) (query_file k s.now 0)) }
 {
-    let Field::Got(left, next) = first else {
-        return first;
-    };
-    path(s, next, left, k)
-}
-
-#[cycle(path_qualifier_then_path_then_qualifier)]
-fn then_qualifier(s: &[u8], first: Field, k: u8) -> Field
-    ensures { Then k qualifier s.now first result }
-{
-    let Field::Got(left, next) = first else {
-        return first;
-    };
-    qualifier(s, next, left, k)
-}
-
-fn whole_file(s: &[u8], k: u8) -> Field
-    ensures { read_of result ≡ left_of (query_file k s.now 0) }
-{
-    let headed = Cursor::start().header(s, b'Q', b'R', b'Y', 1);
-    let Field::Got(_, body) = headed else {
-        return headed;
-    };
-    let query = path(s, body, LIMIT, k);
-    let Field::Got(left, after) = query else {
-        return query;
-    };
-    leaving(left, after.end(s))
-}
-
-pub fn read(s: &[u8], k: u8) -> QueryRead
-    ensures { result ≡ query_read (query_file k s.now 0) }
-{
-    let found = whole_file(s, k);
-    match found {
-        Field::Got(left, _) => QueryRead {
-            outcome: Outcome::Accepted,
-            nodes: u16_to_u8(LIMIT - left),
-        },
-        Field::Refused(refusal) => QueryRead {
-            outcome: Outcome::Refused(refusal),
-            nodes: 0,
-        },
-    }
+    let (_, body) = Cursor::start().header(s, b'Q', b'R', b'Y', 1)?;
+    let (left, after) = path(s, body, LIMIT, k)?;
+    after.end(s)?;
+    Ok(LIMIT - left)
 }

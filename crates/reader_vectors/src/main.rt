@@ -8,21 +8,33 @@ use std::env::Env;
 use std::fs::Files;
 use std::io;
 
-// The name's ending begins with a letter of its own for each kind of file.
-fn kind(name: &[u8]) -> u8 {
-    if name.len() < 3 {
-        return 0;
-    }
-    name[name.len() - 3]
+// What a file is, by the letter with which its name's ending begins.
+#[derive(Clone, Copy)]
+enum Kind {
+    Document,
+    Tables,
+    Query,
+    Program,
+    Graph,
 }
 
-fn answer(kind: u8, gra: &[u8], file: &[u8]) -> Answer {
+fn kind_of(name: &[u8]) -> Kind {
+    match name {
+        [.., b't', _, _] => Kind::Document,
+        [.., b'e', _, _] => Kind::Tables,
+        [.., b'q', _, _] => Kind::Query,
+        [.., b'r', _, _] => Kind::Program,
+        _ => Kind::Graph,
+    }
+}
+
+fn answer(kind: Kind, gra: &[u8], file: &[u8]) -> Answer {
     match kind {
-        b't' => trammelbud::tb_read_document(gra, file),
-        b'e' => trammelbud::tb_read_tables(gra, file),
-        b'q' => trammelbud::tb_read_query(gra, file),
-        b'r' => trammelbud::tb_read_program(gra, file),
-        _ => trammelbud::tb_read_graph(file),
+        Kind::Document => trammelbud::tb_read_document(gra, file),
+        Kind::Tables => trammelbud::tb_read_tables(gra, file),
+        Kind::Query => trammelbud::tb_read_query(gra, file),
+        Kind::Program => trammelbud::tb_read_program(gra, file),
+        Kind::Graph => trammelbud::tb_read_graph(file),
     }
 }
 
@@ -38,7 +50,7 @@ fn judge(rt: &(impl Files + Print), graph: &[u8], name: &[u8]) -> io::Result<()>
     let g = load(rt, graph, &mut gra);
     let mut file = [0u8; 1024];
     let n = load(rt, name, &mut file);
-    print(rt, name, answer(kind(name), &gra[..g], &file[..n]))
+    print(rt, name, answer(kind_of(name), &gra[..g], &file[..n]))
 }
 
 fn judge_pair(rt: &(impl Env + Files + Print), first: usize, second: usize) -> io::Result<()> {

@@ -2,18 +2,15 @@
 use Prim.Native.Nat.{ℕ, suc, ◌+◌, ◌-◌, ◌≤◌, ◌<◌}
 use mathlib.Core.List.{List, ◌++◌}
 use mathlib.Core.Path.{◌≡◌, refl}
-use native.Mathlib.Nat.{sub-zero}
 use native.Mathlib.Numerals.{add-one}
 use native.Mathlib.Omega.{arith}
-use lib.ListN.{length}
-use borrow.Author.Rules.{rules}
+use lib.ListN.{length, get_or}
+use Rattle.std.proofs.lemmas.List.{get_or_default}
 use Rattle.meaning.specs.declared.Element.{Element}
-use Rattle.meaning.specs.Documents.{node}
-use Rattle.elements.specs.Inside.Packing.{kept_in}
-use Rattle.elements.proofs.Packing.{held_room}
+use Rattle.meaning.specs.Documents.{document_node, node}
 use Rattle.tre.specs.Tre.{open_of, tokens_of}
-use Rattle.writing.specs.Inside.Put.{Put}
-use Rattle.writing.proofs.Puts.{put_bytes_word}
+use Rattle.writing.specs.declared.Writer.{Writer}
+use Rattle.writing.specs.Inside.Wrote.{Wrote}
 use Rattle.writing.proofs.Toward.{Toward, toward_none, toward_room, toward_more, toward_last}
 use Rattle.rebuilder.specs.Inside.TokensFit.{closes_after, tokens_in, TokensFit}
 use Rattle.rebuilder.proofs.Closes.{past_last}
@@ -22,40 +19,37 @@ use Rattle.rebuilder.proofs.Closes.{past_last}
 abbrev pub tokens_after : List Element → ℕ → List ℕ
 tokens_after es n = tokens_of es n (length es - n)
 
-module _ {kept : List ℕ} {count at : ℕ} {old : List ℕ} (start : TokensFit kept count (tokens_in (kept_in kept count)) at old) where
-  abbrev es : List Element
-  es = kept_in kept count
-
-  module _ {new : List ℕ} {next all : ℕ} (n : ℕ) (so_far : Toward at (tokens_in es) old next (tokens_after es n) new) (counted : all ≡ count) where
+module _ {es : List Element} {old : Writer} (start : TokensFit es (tokens_in es) old) where
+  module _ {w : Writer} (n : ℕ) (so_far : Toward (tokens_in es) old (tokens_after es n) w) where
     -- an element follows: closes, its open, and the tokens behind it
-    module _ (l : n < all) where
-      tokens_next : {e : Element} → e ≡ node es (n + 1) → tokens_after es n ≡ closes_after es n ++ (open_of e ++ tokens_after es (n + 1))
-      unfolding tokens_of
-      tokens_next f = let left : length es - n ≡ suc (length es - suc n) = omega (arith, start.held.long) in rw (left, f, add-one n)
+    module _ (l : n < length es) where
+      tokens_next : (e : Element) → tokens_after es n ≡ closes_after es n ++ (open_of (get_or es n e) ++ tokens_after es (n + 1))
+      unfolding tokens_of node
+      tokens_next e = let left : length es - n ≡ suc (length es - suc n) = omega arith in rw (left, add-one n, get_or_default es n e document_node l)
 
-      pub closes_fit : TokensFit kept count (closes_after es n) next new
-      closes_fit = record { held = start.held; room = toward_room (closes_after es n) (open_of (node es (n + 1)) ++ tokens_after es (n + 1)) so_far (tokens_next refl) }
+      pub closes_fit : TokensFit es (closes_after es n) w
+      closes_fit = record { held = start.held; room = toward_room (closes_after es n) (open_of (get_or es n document_node) ++ tokens_after es (n + 1)) so_far (tokens_next document_node) }
 
-      module _ {e : Element} {begin : ℕ} {mid : List ℕ} (f : e ≡ node es (n + 1)) (closed : Put next (closes_after es n) new mid begin) where
-        closed_so_far : Toward at (tokens_in es) old begin (open_of e ++ tokens_after es (n + 1)) mid
-        closed_so_far = toward_more (open_of e ++ tokens_after es (n + 1)) closed so_far (tokens_next f)
+      module _ (e : Element) {mid : Writer} (closed : Wrote (closes_after es n) w mid) where
+        closed_so_far : Toward (tokens_in es) old (open_of (get_or es n e) ++ tokens_after es (n + 1)) mid
+        closed_so_far = toward_more (open_of (get_or es n e) ++ tokens_after es (n + 1)) closed so_far (tokens_next e)
 
-        pub open_fits : begin + 4 ≤ length mid
-        open_fits = toward_room (open_of e) (tokens_after es (n + 1)) closed_so_far refl
+        pub open_fits : mid.at + 4 ≤ length mid.out.now
+        open_fits = toward_room (open_of (get_or es n e)) (tokens_after es (n + 1)) closed_so_far refl
 
-        pub tokens_more : {newer : List ℕ} {after : ℕ} → Put begin (open_of e) mid newer after → Toward at (tokens_in es) old after (tokens_after es (n + 1)) newer
+        pub tokens_more : {new : Writer} → Wrote (open_of (get_or es n e)) mid new → Toward (tokens_in es) old (tokens_after es (n + 1)) new
         tokens_more opened = toward_more (tokens_after es (n + 1)) opened closed_so_far refl
 
     -- after the last only closes follow
-    module _ (l : all ≤ n) where
-      tokens_last : tokens_after es n ≡ closes_after es n
+    module _ (l : n ≤ length es) (m : length es ≤ n) where
+      tokens_last : tokens_after es n ≡ closes_after es (length es)
       unfolding tokens_of
-      tokens_last = let left : length es - n ≡ 0 = omega (arith, start.held.long) in rw (left, past_last es n (omega (arith, start.held.long)))
+      tokens_last = let left : length es - n ≡ 0 = omega arith in let all : n ≡ length es = omega arith in rw (left, past_last es (length es) (omega arith), all)
 
-      pub last_closes_fit : TokensFit kept count (closes_after es n) next new
+      pub last_closes_fit : TokensFit es (closes_after es (length es)) w
       last_closes_fit = record { held = start.held; room = rw (← tokens_last) so_far.room }
 
-      pub tokens_all : {newer : List ℕ} {after : ℕ} → Put next (closes_after es n) new newer after → Put at (tokens_in es) old newer after
+      pub tokens_all : {new : Writer} → Wrote (closes_after es (length es)) w new → Wrote (tokens_in es) old new
       tokens_all closed = toward_last so_far (rw tokens_last closed)
 
-pub ruleset laws = (put_bytes_word, held_room, sub-zero, toward_none, closes_fit, open_fits, tokens_more, last_closes_fit, tokens_all, rules)
+pub ruleset laws = (toward_none, closes_fit, open_fits, tokens_more, last_closes_fit)

@@ -1,67 +1,68 @@
-// The rebuilder: writes the document file of elements that are kept.
+// The rebuilder: writes the document file of elements.
 #![tactic(auto)]
 
 ghost use Rattle.std.specs.Prelude.{◌+◌, ◌≤◌, length};
-ghost use Rattle.elements.specs.Inside.Packing.{kept_in};
 ghost use Rattle.tre.specs.Tre.{open_of, document_bytes};
 ghost use Rattle.writing.specs.Lent.{Leaves, stored};
-ghost use Rattle.writing.specs.Inside.Put.{Put};
+ghost use Rattle.writing.specs.Inside.Wrote.{Wrote};
 ghost use Rattle.rebuilder.specs.Inside.TokensFit.{Held, closes_after, tokens_in, TokensFit};
 
 use meaning::{Answer, Element, Reason};
+use writing::Writer;
 
 // Closes what the element that follows does not stand in: from the last one opened up to the next one's parent, which stays
 // open. After the last element the document node follows, and all are closed.
-fn close_after(kept: &[u32], count: usize, last: u8, out: &mut [u8], at: usize) -> usize
-    requires { (last ≤ count) × TokensFit kept.now count (closes_after (kept_in kept.now count) last) at out.old }
-    ensures { Put at (closes_after (kept_in kept.now count) last) out.old out.new result }
+#[tactic(auto, using(crate::proofs::Closing::laws))]
+fn close_after(elements: &[Element], last: u8, w: &mut Writer<'_>)
+    requires there { last ≤ length elements.now }
+    requires fits { TokensFit elements.now (closes_after elements.now last) w.old }
+    ensures { Wrote (closes_after elements.now last) w.old w.new }
 {
-    let following = elements::node_at(kept, count, last + 1);
-    let mut next = at;
+    let following = elements::node_at(elements, last + 1);
     let mut number = last;
+    // No `for`: the next is the parent of the one closed.
     while number != following.parent {
-        next = writing::byte(out, next, 2);
-        let closed = elements::node_at(kept, count, number);
-        number = closed.parent;
+        w.byte(2);
+        number = elements::node_at(elements, number).parent;
     }
-    next
 }
 
-fn open(element: Element, out: &mut [u8], at: usize) -> usize
-    requires { at + 4 ≤ length out.old }
-    ensures { Put at (open_of element) out.old out.new result }
+#[tactic(auto, using(writing::proofs::Writing::wrote_bytes_word))]
+fn open(element: Element, w: &mut Writer<'_>)
+    requires { w.old.at + 4 ≤ length w.old.out.now }
+    ensures { Wrote (open_of element) w.old w.new }
 {
-    let kind = writing::byte(out, at, 1);
-    let text = writing::byte(out, kind, element.kind);
-    writing::word(out, text, element.text)
+    w.byte(1);
+    w.byte(element.kind);
+    w.word(element.text);
 }
 
-// Before each element all those are closed that it does not stand in, and the rest at the end.
-fn write_tokens(kept: &[u32], count: usize, out: &mut [u8], at: usize) -> usize
-    requires { TokensFit kept.now count (tokens_in (kept_in kept.now count)) at out.old }
-    ensures { Put at (tokens_in (kept_in kept.now count)) out.old out.new result }
+// Before each element all those are closed that it does not stand in, and the rest at the end. An element's place in the slice
+// is the number of the last one before it.
+#[tactic(auto, using(crate::proofs::Tokens::laws))]
+fn write_tokens(elements: &[Element], w: &mut Writer<'_>)
+    requires { TokensFit elements.now (tokens_in elements.now) w.old }
+    ensures { Wrote (tokens_in elements.now) w.old w.new }
 {
-    let all = numbers::usize_to_u8(count);
-    let mut next = at;
-    let mut last: u8 = 0;
-    while last < all {
-        let begin = close_after(kept, count, last, out, next);
-        last += 1;
-        next = open(elements::node_at(kept, count, last), out, begin);
+    for (last, element) in elements.iter().enumerate() {
+        close_after(elements, last as u8, w);
+        open(*element, w);
     }
-    close_after(kept, count, last, out, next)
+    close_after(elements, elements.len() as u8, w);
 }
 
-// Writes the document of the first `count` elements that are kept, where there is room for it, and answers its length. Each
-// element takes five bytes: four that open it, and its close.
-pub fn write(kept: &[u32], count: usize, out: &mut [u8]) -> Answer
-    requires { Held kept.now count }
-    ensures { Leaves (stored (document_bytes (kept_in kept.now count)) out.old) result out.new }
+// Writes the document of the elements, where there is room for it, and answers its length. Each element takes five bytes: four
+// that open it, and its close.
+#[tactic(auto, using(crate::proofs::Whole::no_room))]
+pub fn write(elements: &[Element], out: &mut [u8]) -> Answer
+    requires { Held elements.now }
+    ensures { Leaves (stored (document_bytes elements.now) out.old) result out.new }
 {
-    if out.len() < 5 + 5 * count {
+    if out.len() < 5 + 5 * elements.len() {
         return writing::refused(Reason::Room);
     }
-    let tokens = writing::header(out, b'T', b'R', b'E', 1);
-    let length = write_tokens(kept, count, out, tokens);
-    writing::accepted(numbers::usize_to_u32(length))
+    let mut w = Writer { out, at: 0 };
+    w.header(b'T', b'R', b'E', 1);
+    write_tokens(elements, &mut w);
+    writing::accepted(w.at as u32)
 }

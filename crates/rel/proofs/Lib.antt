@@ -1,4 +1,3 @@
-pub mod Laws
 pub mod File
 pub mod Encoded
 pub mod Reasons

@@ -1,11 +1,10 @@
 // The program file: the one table of layouts, which its reader and its writer go by, and the writer of a step.
 #![tactic(auto)]
 
-ghost use Rattle.std.specs.Prelude.{◌≡◌, [], ◌∷◌, ◌≤◌, length};
+ghost use Rattle.std.specs.Prelude.{◌≡◌, ◌≤◌, length};
 ghost use Rattle.rel.specs.Rel.{layouts, layout_of, coded, step_bytes};
 
 use meaning::Operation;
-use numbers::{high, low};
 
 // How an operation uses x and y: not at all (0, 0), x as an operand (a, 0), both as operands (a, b), both together as a
 // number of 16 bits, both together as a mask of types.
@@ -18,7 +17,8 @@ pub enum Layout {
     Mask,
 }
 
-// The last code of an operation; the first is 1.
+// The last code of an operation; the first is 1. Codes are the file's own bytes and the places of the table, and no enum: the
+// reader judges a byte, and the writer writes one.
 pub const LAST_CODE: u8 = 9;
 
 // The layouts of the operations, by their codes.
@@ -34,35 +34,30 @@ pub const LAYOUTS: [Layout; LAST_CODE as usize] = [
     Layout::Pair, // 0x09 AND
 ];
 
-// The three bytes of a step.
-#[derive(Clone, Copy)]
-pub struct StepBytes(pub u8, pub u8, pub u8);
-
 pub fn layout_of(code: u16) -> Layout
     requires { (1 ≤ code) × (code ≤ length layouts) }
     ensures { result ≡ layout_of code }
 {
-    let place = code as usize - 1;
-    LAYOUTS[place]
+    LAYOUTS[usize::from(code) - 1]
 }
 
 // A step's bytes, from its code and the number or the operands that it has.
-fn laid(code: u8, number: u16, a: u8, b: u8) -> StepBytes
+#[tactic(auto, unfolding(crate::specs::Rel::coded))]
+fn laid(code: u8, number: u16, a: u8, b: u8) -> [u8; 3]
     requires { (1 ≤ code) × (code ≤ length layouts) }
-    ensures { result.0 ∷ result.1 ∷ result.2 ∷ [] ≡ coded code number a b }
+    ensures { result ≡ coded code number a b }
 {
-    let layout = layout_of(code as u16);
-    match layout {
-        Layout::Zeros => StepBytes(code, 0, 0),
-        Layout::Single => StepBytes(code, a, 0),
-        Layout::Pair => StepBytes(code, a, b),
-        Layout::Number => StepBytes(code, high(number), low(number)),
-        Layout::Mask => StepBytes(code, high(number), low(number)),
+    let [high, low] = number.to_be_bytes();
+    match layout_of(u16::from(code)) {
+        Layout::Zeros => [code, 0, 0],
+        Layout::Single => [code, a, 0],
+        Layout::Pair => [code, a, b],
+        Layout::Number | Layout::Mask => [code, high, low],
     }
 }
 
-pub fn step_bytes(o: Operation) -> StepBytes
-    ensures { result.0 ∷ result.1 ∷ result.2 ∷ [] ≡ step_bytes o }
+pub fn step_bytes(o: Operation) -> [u8; 3]
+    ensures { result ≡ step_bytes o }
 {
     match o {
         Operation::Table(m) => laid(1, m, 0, 0),

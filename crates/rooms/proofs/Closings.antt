@@ -1,12 +1,10 @@
 -- The closure by sweeps, in a room: a row takes in, a sweep of them, and the sweeps in turn.
 use Prim.Native.Nat.{ℕ, suc, ◌+◌, ◌-◌, ◌≤◌, ◌<◌}
 use mathlib.Core.Path.{◌≡◌, refl, sym, ap, ap₂, ◌∙◌, fun_ext}
-use mathlib.Core.Bool.{Bool, true, false, not, ◌&&◌, ◌||◌, or_self, cond}
+use mathlib.Core.Bool.{Bool, false, ◌&&◌, ◌||◌, or_self, cond}
 use mathlib.Core.List.{List}
 use native.Mathlib.Numerals.{add-one}
 use native.Mathlib.Omega.{arith}
-use borrow.Author.Rules.{rules}
-use borrow.Author.Tests.{not-true}
 use lib.Dec.{eqb, leb, ltb, leb-suc-suc}
 use lib.ListN.{length}
 use Rattle.meaning.specs.Limits.{small, row_bits, room_bytes}
@@ -19,8 +17,8 @@ use Rattle.rows.proofs.Searches.{some_below}
 use Rattle.rooms.specs.Inside.Rooms.{up_to, changed, Places, RoomMade, TakenIn, Grown, Swept, Closable}
 use Rattle.rooms.proofs.Changes.{changed_here, up_to_all}
 use Rattle.rooms.proofs.Rooms.{room_on, operands_kept, places_kept, row_first, made_as, made_after}
-use Rattle.rooms.proofs.Turns.{room_small, gathered_wide}
-use Rattle.rooms.proofs.Sweeps.{Sweeping, sweeping_none, sweeping_more, sweeping_closed, Closing, closing_one, closing_all, closing_more, closing_closed}
+use Rattle.rooms.proofs.Turns.{gathered_wide}
+use Rattle.rooms.proofs.Sweeps.{Sweeping, sweeping_more, Closing, closing_one, closing_all, closing_more, closing_closed}
 
 module _ (width : ℕ) where
   pub row_taken : {xs ys before row after added : List ℕ} {base a v first : ℕ} → Places width (length xs) base a a (row_bits width)
@@ -44,14 +42,7 @@ module _ (width : ℕ) where
     pub rows : Sweeping size (rows_at width old a) (rows_at width old base) (rows_at width new base) v grew back
     pub others : OthersStay old new base (room_bytes width)
 
-  pub sweeps_none : {xs : List ℕ} {base a size : ℕ} → Places width (length xs) base a a size → Sweeps xs xs base a size size false false
-  sweeps_none {xs} {base} {a} {size} p = record { places = p; most = omega arith; rows = sweeping_none size (rows_at width xs a) (rows_at width xs base); others = kept_all }
-
   module _ {old xs : List ℕ} {base a size v : ℕ} {g k : Bool} (n : Sweeps old xs base a size v g k) where
-    -- what a row takes in asks
-    pub sweeps_places : Places width (length xs) base a a (row_bits width)
-    sweeps_places = let p = places_kept width n.others n.places in record { sized = p.sized; room = p.room; left = p.left; right = p.right; few = omega arith }
-
     pub sweeps_more : {ys : List ℕ} {t : Bool} {first : ℕ} → 0 < v → TakenIn width xs ys base a (v - 1) t → Next (row_bits width) (rows_at width ys a (v - 1)) 0 first
         → Sweeps old ys base a size (v - 1) (g || t) (k || leb first (v - 1))
     sweeps_more {ys} {first = first} l m e =
@@ -67,12 +58,6 @@ module _ (width : ℕ) where
           others = others;
         }
 
-    pub sweeps_all : v ≤ 0 → Swept width size old xs base a (g && k)
-    sweeps_all l =
-        let e : v ≡ 0 = omega arith in
-        let s : Sweeping size (rows_at width old a) (rows_at width old base) (rows_at width xs base) 0 g k = rw e at n.rows in
-        record { rows = s.grown; closed = sweeping_closed size (rows_at width old a) g k s; others = n.others }
-
   -- After some sweeps, as many as k steps are in.
   pub record Closes (old new : List ℕ) (base a size k : ℕ) : Type 0 where
     pub asked : Closable width old base a size
@@ -82,9 +67,6 @@ module _ (width : ℕ) where
     pub others : OthersStay old new base (room_bytes width)
 
   module _ {old xs : List ℕ} {base a size k : ℕ} (n : Closes old xs base a size k) where
-    pub closes_places : Places width (length xs) base a a size
-    closes_places = places_kept width n.others n.asked.places
-
     module _ {ys : List ℕ} {g : Bool} (s : Swept width size xs ys base a g) where
       same : rows_at width xs a ≡ rows_at width old a
       same = (operands_kept width n.others n.asked.places).0
@@ -130,15 +112,9 @@ module _ (width : ℕ) where
       closes_all l =
           rw (← operand_kept) (made_after width m record { rows = closing_all size (rows_at width old a) n.asked.on n.rows (omega (arith, n.most)); others = n.others })
 
-      pub closes_still : {ys : List ℕ} {g : Bool} → Swept width size xs ys base a g → not g ≡ true → RoomMade width first ys base (closure size (rows_at width first a))
+      pub closes_still : {ys : List ℕ} {g : Bool} → Swept width size xs ys base a g → g ≡ false → RoomMade width first ys base (closure size (rows_at width first a))
       closes_still s e =
           rw (← operand_kept) (made_after width m record {
-            rows = closing_closed size (rows_at width old a) n.asked.on n.rows n.some (swept n s) (rw (← (same n s)) (s.closed (not-true _ e)));
+            rows = closing_closed size (rows_at width old a) n.asked.on n.rows n.some (swept n s) (rw (← (same n s)) (s.closed e));
             others = kept n s;
           })
-
-pub ruleset take_laws = (room_small, row_taken, rules)
-
-pub ruleset sweep_laws = (sweeps_none, sweeps_places, sweeps_more, sweeps_all, rules)
-
-pub ruleset closure_laws = (closes_places, closes_more, closes_one, closes_all, closes_still, rules)

@@ -2,23 +2,23 @@
 use Prim.Native.Nat.{ℕ, ◌+◌, ◌*◌, ◌/◌, ◌%◌, ◌≤◌, ◌<◌}
 use mathlib.Core.Path.{◌≡◌, refl, sym, ap, ap₂, ◌∙◌, fun_ext}
 use mathlib.Core.Bool.{true}
-use mathlib.Core.List.{List, [], ◌∷◌, ◌++◌, map}
+use mathlib.Core.List.{List, [], ◌∷◌, ◌++◌}
 use native.Mathlib.Nat.{zero-add, div-lt_iff_lt-mul, mul-pos}
 use native.Mathlib.Numerals.{add-one}
 use native.Mathlib.Omega.{arith}
-use borrow.Author.Rules.{rules}
 use mir.Syntax.{w8}
 use mir.Val.{Fits}
-use lib.ListN.{length, get_or, take, length-map}
-use lib.Seq.{take-suc, take_all, ext_get_or}
+use lib.ListN.{length, get_or, take, length-map, length-take}
+use lib.Seq.{take-suc, take_all, get_or-take, ext_get_or}
+use Rattle.meaning.specs.declared.Element.{Element}
 use Rattle.meaning.specs.declared.Operation.{Operation}
 use Rattle.meaning.specs.declared.Operation.TheVariants.{Itself}
 use Rattle.meaning.specs.declared.Program.{Program}
 use Rattle.meaning.specs.declared.Step.{Step}
-use Rattle.meaning.specs.Limits.{room_bytes, step_limit}
+use Rattle.meaning.specs.Limits.{room_bytes}
 use Rattle.meaning.specs.Lists.{table}
 use Rattle.meaning.specs.Relations.{Relation, at}
-use Rattle.meaning.specs.Documents.{View}
+use Rattle.meaning.specs.Documents.{View, view}
 use Rattle.meaning.specs.Operations.{rows, results, run}
 use Rattle.meaning.specs.Inside.Records.{operations_in}
 use Rattle.meaning.proofs.Lists.{table_more, table_cong}
@@ -30,7 +30,6 @@ use Rattle.rows.proofs.Bytes.{kept_all, kept_wider, kept_inside}
 use Rattle.rows.proofs.Cases.{by_order}
 use Rattle.rows.proofs.Rows.{row_order}
 use Rattle.rooms.specs.Layout.{room_byte, work_byte, overwritten}
-use Rattle.elements.specs.Inside.Packing.{shown}
 use Rattle.rooms.specs.Inside.FitToRun.{Nodes, FitToRun}
 use Rattle.rooms.specs.Inside.Rooms.{RowWidth, RoomMade}
 use Rattle.rooms.specs.Inside.Steps.{rooms_in, Makeable}
@@ -39,21 +38,17 @@ use Rattle.rooms.proofs.Layouts.{byte_is, overwritten_front, overwritten_past, o
 use Rattle.rooms.proofs.Rooms.{room_kept}
 use Rattle.rooms.proofs.Steps.{room_of}
 
--- an array is as long as what its elements are made of
-pub array_full : {A B : Type 0} (l : List A) (f : A → B) {n : ℕ} → length (map f l) ≡ n → length l ≡ n
-array_full l f h = sym (length-map l f) ∙ h
-
 -- one operation more: its rows come last
 run_more : (d : View) (os : List Operation) (o : Operation) → run d (os ++ (o ∷ [])) ≡ run d os ++ (rows d (run d os) o ∷ [])
 unfolding run results
 run_more d os o = results_append (rows d) [] os (o ∷ [])
 
 -- the rows of every step join nodes
-pub run_on : (kept : List ℕ) (count : ℕ) → Nodes kept count → (os : List Operation) (s v w : ℕ) → at (run (shown kept count) os) s v w ≡ true → (v < (shown kept count).size) × (w < (shown kept count).size)
-run_on kept count n os s v w h =
-    let e = run_nodes (shown kept count) n.parents os s v w h in
-    let size = size_is kept count n.room in
-    (omega (arith, size, there_node kept count n.room v e.0), omega (arith, size, there_node kept count n.room w e.1))
+pub run_on : (es : List Element) → Nodes es → (os : List Operation) (s v w : ℕ) → at (run (view es) os) s v w ≡ true → (v < (view es).size) × (w < (view es).size)
+run_on es n os s v w h =
+    let e = run_nodes (view es) n.parents os s v w h in
+    let size = size_is es in
+    (omega (arith, there_node es v e.0), omega (arith, there_node es w e.1))
 
 module _ (width : ℕ) where
   -- the rooms below one that is written stay
@@ -68,71 +63,88 @@ module _ (width : ℕ) where
       ∙ ap (λ (i : ℕ). table (λ i. rows_at width xs (room_bytes width * i)) 0 s ++ (rows_at width xs (room_bytes width * i) ∷ [])) (zero-add s)
 
 -- the steps below s are made
-pub record Performed (width : ℕ) (kept : List ℕ) (count : ℕ) (p : Program) (old new : List ℕ) (s : ℕ) : Type 0 where
+pub record Performed (width : ℕ) (es : List Element) (p : Program) (old new : List ℕ) (s : ℕ) : Type 0 where
   pub most : s ≤ p.count
-  pub rooms : rooms_in width new s ≡ run (shown kept count) (take s (operations_in p))
+  pub rooms : rooms_in width new s ≡ run (view es) (take s (operations_in p))
   pub others : OthersStay old new 0 (room_bytes width * s)
   pub bytes : (i : ℕ) → Fits w8 (get_or new i 0)
 
-module _ {width : ℕ} {kept : List ℕ} {count : ℕ} {p : Program} where
-  pub performed_none : {xs : List ℕ} → ((i : ℕ) → Fits w8 (get_or xs i 0)) → Performed width kept count p xs xs 0
+-- the steps that a program counts are all there
+steps_taken : {es : List Element} {p : Program} → FitToRun es p → length (take p.count p.steps) ≡ p.count
+unfolding operations_in
+steps_taken {p = p} r = sym (length-map (take p.count p.steps) (λ (y : Step). y.operation)) ∙ r.whole
+
+module _ {width : ℕ} {es : List Element} {p : Program} where
+  pub performed_none : {xs : List ℕ} → ((i : ℕ) → Fits w8 (get_or xs i 0)) → Performed width es p xs xs 0
   unfolding rooms_in table run results
   performed_none f = record { most = omega arith; rooms = refl; others = kept_all; bytes = f }
 
   -- Step s is to be made.
-  module _ {old xs : List ℕ} {s : ℕ} (x : Step) (sized : RowWidth width) (r : FitToRun kept count p) (n : Performed width kept count p old xs s) (l : s < p.count) (long : length p.steps ≡ step_limit)
+  module _ {old xs : List ℕ} {s : ℕ} (x : Step) (sized : RowWidth width) (r : FitToRun es p) (n : Performed width es p old xs s) (l : s < length (take p.count p.steps))
       (fits : room_bytes width * p.count ≤ length old) where
-    operation_is : get_or (operations_in p) s Itself ≡ (get_or p.steps s x).operation
-    operation_is = operation_at p s x l (omega (arith, r.whole, r.legal.most_steps))
+    abbrev step : Step
+    step = get_or (take p.count p.steps) s x
 
-    number_is : (get_or p.steps s x).number ≡ s
-    number_is = number_at p s x r.numbered l (omega (arith, r.whole, r.legal.most_steps))
+    held : p.count ≤ length p.steps
+    held = omega (arith, steps_taken r, length-take p.count p.steps)
+
+    below : s < p.count
+    below = omega (arith, steps_taken r)
+
+    step_is : step ≡ get_or p.steps s x
+    step_is = get_or-take p.count p.steps s x below
+
+    operation_is : get_or (operations_in p) s Itself ≡ step.operation
+    operation_is = operation_at p s x below held ∙ sym (ap (λ (y : Step). y.operation) step_is)
+
+    number_is : step.number ≡ s
+    number_is = ap (λ (y : Step). y.number) step_is ∙ number_at p s x r.numbered below held
 
     room : room_bytes width * s + room_bytes width ≤ length xs
-    room = omega (arith, n.others.same, row_order (room_bytes width) s p.count l)
+    room = omega (arith, n.others.same, row_order (room_bytes width) s p.count below)
 
-    makeable_here : Makeable width kept count xs s (get_or p.steps s x).operation
+    makeable_here : Makeable width es xs s step.operation
     makeable_here = record {
       sized = sized;
       nodes = r.nodes;
       k = r.k;
-      legal = rw operation_is at (r.legal.operations s (omega (arith, r.whole)));
-      few = omega (arith, r.whole, r.legal.most_steps);
+      legal = rw operation_is at (r.legal.operations s (omega (arith, r.whole, below)));
+      few = omega (arith, r.whole, below, r.legal.most_steps);
       room = room;
-      on = λ i m v w h. run_on kept count r.nodes (take s (operations_in p)) i v w
+      on = λ i m v w h. run_on es r.nodes (take s (operations_in p)) i v w
           (ap (λ (rs : List Relation). at rs i v w) (sym n.rooms) ∙ ap (λ (q : Relation). q v w) (room_of width xs s i m) ∙ h);
     }
 
     -- its number is its place
-    pub makeable : Makeable width kept count xs (get_or p.steps s x).number (get_or p.steps s x).operation
+    pub makeable : Makeable width es xs step.number step.operation
     makeable = rw number_is makeable_here
 
     abbrev MadeAt : List ℕ → ℕ → Type 0
-    MadeAt ys number = RoomMade width xs ys (room_bytes width * number) (rows (shown kept count) (rooms_in width xs number) (get_or p.steps s x).operation)
+    MadeAt ys number = RoomMade width xs ys (room_bytes width * number) (rows (view es) (rooms_in width xs number) step.operation)
 
-    performed_here : {ys : List ℕ} → MadeAt ys s → ((i : ℕ) → Fits w8 (get_or ys i 0)) → Performed width kept count p old ys (s + 1)
+    performed_here : {ys : List ℕ} → MadeAt ys s → ((i : ℕ) → Fits w8 (get_or ys i 0)) → Performed width es p old ys (s + 1)
     performed_here {ys} m f = record {
-      most = omega arith;
+      most = omega (arith, below);
       rooms = rooms_more;
       others = kept_inside (omega arith) (omega arith) (kept_wider (omega arith) n.others) m.others;
       bytes = f;
     }
       where
-        rooms_more : rooms_in width ys (s + 1) ≡ run (shown kept count) (take (s + 1) (operations_in p))
+        rooms_more : rooms_in width ys (s + 1) ≡ run (view es) (take (s + 1) (operations_in p))
         rooms_more =
-            let o : Operation = (get_or p.steps s x).operation in
-            let made : rows_at width ys (room_bytes width * s) ≡ rows (shown kept count) (rooms_in width xs s) o = fun_ext λ v. fun_ext λ w. m.rows v w in
-            let next : take (s + 1) (operations_in p) ≡ take s (operations_in p) ++ (o ∷ []) = rw (add-one s, take-suc (operations_in p) s Itself (omega (arith, r.whole)), operation_is) in
+            let o : Operation = step.operation in
+            let made : rows_at width ys (room_bytes width * s) ≡ rows (view es) (rooms_in width xs s) o = fun_ext λ v. fun_ext λ w. m.rows v w in
+            let next : take (s + 1) (operations_in p) ≡ take s (operations_in p) ++ (o ∷ []) = rw (add-one s, take-suc (operations_in p) s Itself (omega (arith, r.whole, below)), operation_is) in
             rooms_last width ys s ∙ ap₂ (λ (rs : List Relation) (q : Relation). rs ++ (q ∷ [])) (rooms_kept width s m.others (omega (arith, room))) made
-            ∙ ap (λ (rs : List Relation). rs ++ (rows (shown kept count) rs o ∷ [])) n.rooms
-            ∙ sym (ap (run (shown kept count)) next ∙ run_more (shown kept count) (take s (operations_in p)) o)
+            ∙ ap (λ (rs : List Relation). rs ++ (rows (view es) rs o ∷ [])) n.rooms
+            ∙ sym (ap (run (view es)) next ∙ run_more (view es) (take s (operations_in p)) o)
 
-    pub performed_more : {ys : List ℕ} → MadeAt ys (get_or p.steps s x).number → ((i : ℕ) → Fits w8 (get_or ys i 0)) → Performed width kept count p old ys (s + 1)
+    pub performed_more : {ys : List ℕ} → MadeAt ys step.number → ((i : ℕ) → Fits w8 (get_or ys i 0)) → Performed width es p old ys (s + 1)
     performed_more {ys} made f = performed_here (rw number_is at made) f
 
   -- after the last step, every byte is as the layout says
-  pub performed_all : {old new : List ℕ} {s : ℕ} → RowWidth width → FitToRun kept count p → Performed width kept count p old new s → p.count ≤ s → room_bytes width * p.count ≤ length old
-      → new ≡ overwritten (work_byte width (shown kept count) (operations_in p)) (room_bytes width * p.count) old
+  pub performed_all : {old new : List ℕ} {s : ℕ} → RowWidth width → FitToRun es p → Performed width es p old new s → length (take p.count p.steps) ≤ s → room_bytes width * p.count ≤ length old
+      → new ≡ overwritten (work_byte width (view es) (operations_in p)) (room_bytes width * p.count) old
   unfolding work_byte
   performed_all {old} {new} {s} sized r n l fits =
       ext_get_or 0 new (overwritten f size old) (n.others.same ∙ sym (overwritten_length f size old fits)) λ i m.
@@ -142,7 +154,7 @@ module _ {width : ℕ} {kept : List ℕ} {count : ℕ} {p : Program} where
       (λ h. n.others.after i (rw (same, zero-add) h) ∙ sym (overwritten_past f size old i h))
     where
       f : ℕ → ℕ
-      f = work_byte width (shown kept count) (operations_in p)
+      f = work_byte width (view es) (operations_in p)
 
       size : ℕ
       size = room_bytes width * p.count
@@ -151,12 +163,10 @@ module _ {width : ℕ} {kept : List ℕ} {count : ℕ} {p : Program} where
       some = omega arith
 
       same : s ≡ p.count
-      same = omega (arith, n.most)
+      same = omega (arith, steps_taken r, n.most)
 
       all : take s (operations_in p) ≡ operations_in p
-      all = take_all s (operations_in p) (omega (arith, r.whole))
+      all = take_all s (operations_in p) (omega (arith, r.whole, same))
 
-      room_is : (i : ℕ) → i < p.count → rows_at width new (room_bytes width * i) ≡ at (run (shown kept count) (operations_in p)) i
-      room_is i h = sym (room_of width new s i (omega arith)) ∙ ap (λ (rs : List Relation). at rs i) n.rooms ∙ ap (λ (os : List Operation). at (run (shown kept count) os) i) all
-
-pub ruleset laws = (array_full, performed_none, makeable, performed_more, performed_all, rules)
+      room_is : (i : ℕ) → i < p.count → rows_at width new (room_bytes width * i) ≡ at (run (view es) (operations_in p)) i
+      room_is i h = sym (room_of width new s i (omega (arith, same))) ∙ ap (λ (rs : List Relation). at rs i) n.rooms ∙ ap (λ (os : List Operation). at (run (view es) os) i) all

@@ -1,6 +1,6 @@
 -- Laws of rooms: their bits, what stays of them, and a room that is made row by row or column by column.
 use Prim.Native.Nat.{ℕ, ◌+◌, ◌*◌, ◌/◌, ◌%◌, ◌≤◌, ◌<◌}
-use mathlib.Core.Path.{◌≡◌, refl, sym, ap, ap₂, ◌∙◌, fun_ext}
+use mathlib.Core.Path.{◌≡◌, sym, ap, ap₂, ◌∙◌, fun_ext}
 use mathlib.Core.Bool.{Bool, false, ◌&&◌, ◌||◌, and-false, or-false, cond}
 use mathlib.Core.List.{List}
 use mathlib.Core.Logic.{inl, inr}
@@ -8,15 +8,16 @@ use native.Mathlib.Omega.{arith}
 use borrow.Author.Rules.{rules}
 use borrow.Author.Tests.{eq-eqb, ne_eqb, lt-ltb, le-ltb}
 use lib.Dec.{eqb, ltb}
-use lib.ListN.{length, get_or, set}
+use borrow.Rule.Slice.PartMut.{put_mid}
+use lib.ListN.{length, get_or, replicate, length-replicate, get_or-replicate}
 use Rattle.meaning.specs.Limits.{small, row_bits, room_bytes}
 use Rattle.meaning.specs.Sets.{bit}
 use Rattle.meaning.specs.Relations.{Relation, nothing}
 use Rattle.meaning.proofs.Sets.{bit_none}
 use Rattle.meaning.proofs.Tests.{never}
 use Rattle.meaning.proofs.Closure.{On}
-use Rattle.rows.specs.Inside.Rows.{in_row, in_bytes, Bits, Placed, including, stretch, rows_at, OthersStay, BytesMade, RowMade, BitPut, Next}
-use Rattle.rows.proofs.Bytes.{kept_all, kept_wider, kept_inside, stretch_kept, written_none, written_more}
+use Rattle.rows.specs.Inside.Rows.{in_row, in_bytes, Bits, Placed, including, stretch, rows_at, OthersStay, RowMade, BitPut, Next}
+use Rattle.rows.proofs.Bytes.{kept_all, kept_inside, stretch_kept, stretch_at, put_there, put_others}
 use Rattle.rows.proofs.Cases.{by_order, by_equal}
 use Rattle.rows.proofs.Rows.{row_order, row_bit, row_past, row_read_lem}
 use Rattle.rooms.specs.Inside.Rooms.{RowWidth, up_to, columns, changed, added, Places, RoomMade}
@@ -103,23 +104,29 @@ module _ (width : ℕ) where
     found = λ l. sym (b.bits _) ∙ n.found l;
   }
 
-  -- zeros up to k; as many as a room has bytes relate nothing
-  module _ {xs ys : List ℕ} {base k : ℕ} (c : BytesMade xs ys base k (λ j. 0)) where
-    pub zero_more : base + room_bytes width ≤ length xs → k < width * width * 8 → BytesMade xs (set ys (base + k) 0) base (k + 1) (λ j. 0)
-    zero_more r l = written_more c (let m : k < room_bytes width = omega arith in m) r refl
+  -- a room of zeros relates nothing
+  pub cleared : (xs : List ℕ) (base : ℕ) {zeros : List ℕ} → base + room_bytes width ≤ length xs → zeros ≡ replicate (room_bytes width) 0
+      → RoomMade width xs (put_mid base (room_bytes width) xs zeros) base nothing
+  cleared xs base {zeros} l e = record {
+    rows = λ v w. by_order v (row_bits width)
+        (λ h. by_order (w / 8) width
+        (λ n. let inside : width * v + w / 8 < room_bytes width = omega (arith, row_order width v (row_bits width) h) in
+        room_bit ys base v w h n ∙ ap (λ (b : ℕ). bit b (w % 8)) (zero_at (width * v + w / 8) inside (omega arith)) ∙ bit_none (w % 8))
+        (no_column ys base v w))
+        (no_row ys base v w);
+    others = put_others xs zeros base (room_bytes width) l long;
+  }
+    where
+      long : length zeros ≡ room_bytes width
+      long = ap length e ∙ length-replicate (room_bytes width) 0
 
-    pub cleared : k ≤ width * width * 8 → width * width * 8 ≤ k → RoomMade width xs ys base nothing
-    cleared m l = record {
-      rows = λ v w. by_order v (row_bits width)
-          (λ h. by_order (w / 8) width
-          (λ n. room_bit ys base v w h n ∙ ap (λ (b : ℕ). bit b (w % 8)) (zero_at (width * v + w / 8) (omega (arith, row_order width v (row_bits width) h)) (omega arith)) ∙ bit_none (w % 8))
-          (no_column ys base v w))
-          (no_row ys base v w);
-      others = kept_wider (omega arith) c.others;
-    }
-      where
-        zero_at : (i : ℕ) {j : ℕ} → i < k → base + i ≡ j → get_or ys j 0 ≡ 0
-        zero_at i h e = ap (λ (j : ℕ). get_or ys j 0) (sym e) ∙ c.bytes i h
+      ys : List ℕ
+      ys = put_mid base (room_bytes width) xs zeros
+
+      zero_at : (i : ℕ) {j : ℕ} → i < room_bytes width → base + i ≡ j → get_or ys j 0 ≡ 0
+      zero_at i h p =
+          ap (λ (j : ℕ). get_or ys j 0) (sym p) ∙ sym (stretch_at (room_bytes width) ys base i h)
+          ∙ ap (λ (zs : List ℕ). get_or zs i 0) (put_there xs zeros base (room_bytes width) l long ∙ e) ∙ get_or-replicate (room_bytes width) i 0 0 h
 
   pub made_as : {xs ys : List ℕ} {base at : ℕ} {r s : Relation} → base ≡ at → RoomMade width xs ys base r → ((v w : ℕ) → r v w ≡ s v w) → RoomMade width xs ys at s
   made_as e m h = rw (← e) record { rows = λ v w. m.rows v w ∙ h v w; others = m.others }
@@ -155,7 +162,5 @@ module _ (width : ℕ) where
           rows = λ v x. k.rows v x ∙ ap (λ (t : Bool). t || (there && (eqb u v && eqb w x))) (m.rows v x) ∙ column_next r u w there h v x;
           others = k.others;
         }
-
-pub ruleset clear_laws = (written_none, zero_more, cleared, rules)
 
 pub ruleset row_laws = (row_got, row_written, row_put, row_first, rules)

@@ -1,5 +1,5 @@
 -- A step of a program: what each operation asks of the rooms that it reads, and what it makes of them.
-use Prim.Native.Nat.{ℕ, ◌+◌, ◌*◌, ◌^◌, ◌≤◌, ◌<◌}
+use Prim.Native.Nat.{ℕ, ◌+◌, ◌*◌, ◌≤◌, ◌<◌}
 use mathlib.Core.Path.{◌≡◌, refl, sym, ap, ap₂, ◌∙◌}
 use mathlib.Core.Bool.{Bool, true, ◌&&◌}
 use mathlib.Core.List.{List, []}
@@ -9,12 +9,13 @@ use borrow.Author.Rules.{rules}
 use borrow.Author.Tests.{lt-ltb}
 use lib.Dec.{eqb, ltb}
 use lib.ListN.{length, get_or-eq_default}
+use Rattle.meaning.specs.declared.Element.{Element}
 use Rattle.meaning.specs.declared.Operation.{Operation}
 use Rattle.meaning.specs.declared.Operation.TheVariants.{Table, Itself, Text, Join, Union, Closure, Has, Diff, Both}
 use Rattle.meaning.specs.Limits.{room_bytes}
 use Rattle.meaning.specs.Inside.Diagonal.{diagonal}
 use Rattle.meaning.specs.Relations.{Relation, nothing, at, join, unite, has, difference, intersection, closure}
-use Rattle.meaning.specs.Documents.{is_text, text_test}
+use Rattle.meaning.specs.Documents.{is_text, text_test, view}
 use Rattle.meaning.specs.Operations.{LegalOperation, rows}
 use Rattle.meaning.proofs.Lists.{table_length, table_at}
 use Rattle.meaning.proofs.Tests.{never}
@@ -24,39 +25,36 @@ use Rattle.rows.specs.declared.Mix.TheVariants.{Either, Both as Shared, First}
 use Rattle.rows.specs.Inside.Rows.{mixes, rows_at, mixed_rows}
 use Rattle.rows.proofs.Cases.{by_order}
 use Rattle.rows.proofs.Rows.{row_order}
+use Rattle.rooms.specs.declared.row.Room.{Room}
 use Rattle.rooms.specs.declared.room.Test.{Test}
 use Rattle.rooms.specs.declared.room.Test.TheVariants.{Always, Text as Texts, Related}
-use Rattle.rooms.specs.Inside.Rooms.{RowWidth, up_to, columns, passing, Places, Testable, RoomMade, Closable}
-use Rattle.elements.specs.Inside.Packing.{shown}
+use Rattle.rooms.specs.Inside.Rooms.{up_to, columns, passing, Places, Testable, RoomMade, Closable}
 use Rattle.rooms.specs.Inside.Steps.{rooms_in, Makeable}
 use Rattle.rooms.proofs.Changes.{up_to_all, columns_all}
 use Rattle.rooms.proofs.Rooms.{made_as}
 use Rattle.rooms.proofs.Elements.{size_is, node_there, there_node}
-
-pub room_fits : (width step : ℕ) → RowWidth width → step < 256 → (width * width < 2 ^ 64) × (width * width * 8 < 2 ^ 64) × (width * width * 8 * step < 2 ^ 64)
-room_fits width step e l = rw e (omega arith)
 
 -- what the room of an earlier step holds
 pub room_of : (width : ℕ) (xs : List ℕ) (s a : ℕ) → a < s → at (rooms_in width xs s) a ≡ rows_at width xs (room_bytes width * a)
 unfolding rooms_in
 room_of width xs s a l = table_at _ 0 s a nothing l ∙ ap (λ (i : ℕ). rows_at width xs (room_bytes width * i)) (zero-add a)
 
-module _ {width : ℕ} {kept : List ℕ} {count : ℕ} {xs : List ℕ} {s : ℕ} {o : Operation} (m : Makeable width kept count xs s o) where
-  size : count + 1 ≡ (shown kept count).size
-  size = size_is kept count m.nodes.room
+module _ {width : ℕ} {es : List Element} {xs : List ℕ} {s : ℕ} {o : Operation} (m : Makeable width es xs s o) where
+  size : length es + 1 ≡ (view es).size
+  size = size_is es
 
-  rooms_nodes : (i : ℕ) → OnNodes (shown kept count) (at (rooms_in width xs s) i)
+  rooms_nodes : (i : ℕ) → OnNodes (view es) (at (rooms_in width xs s) i)
   unfolding rooms_in
   rooms_nodes i v w h =
       by_order i s
       (λ l. let on = m.on i l v w (sym (ap (λ (r : Relation). r v w) (room_of width xs s i l)) ∙ h) in
-      (node_there kept count m.nodes.room v (omega (arith, on.0, size)), node_there kept count m.nodes.room w (omega (arith, on.1, size))))
+      (node_there es v (omega (arith, on.0, size)), node_there es w (omega (arith, on.1, size))))
       (λ l. never (sym (ap (λ (r : Relation). r v w) (get_or-eq_default (rooms_in width xs s) nothing {n = i} (omega (arith, table_length (λ s. rows_at width xs (room_bytes width * s)) 0 s)))) ∙ h))
 
-  within : (v w : ℕ) → rows (shown kept count) (rooms_in width xs s) o v w ≡ true → (v < count + 1) × (w < count + 1)
+  within : (v w : ℕ) → rows (view es) (rooms_in width xs s) o v w ≡ true → (v < length es + 1) × (w < length es + 1)
   within v w h =
-      let on = rows_nodes (shown kept count) m.nodes.parents (rooms_in width xs s) o rooms_nodes v w h in
-      (omega (arith, there_node kept count m.nodes.room v on.0), omega (arith, there_node kept count m.nodes.room w on.1))
+      let on = rows_nodes (view es) m.nodes.parents (rooms_in width xs s) o rooms_nodes v w h in
+      (omega (arith, there_node es v on.0), omega (arith, there_node es w on.1))
 
   -- an operand's room: where it ends, and what it holds
   operand_before : {a x base : ℕ} → a < s → x ≡ room_bytes width * a → base ≡ room_bytes width * s → x + room_bytes width ≤ base
@@ -70,7 +68,7 @@ module _ {width : ℕ} {kept : List ℕ} {count : ℕ} {xs : List ℕ} {s : ℕ}
     room_inside = omega (arith, b, m.room)
 
     -- What each operation asks of its operands' rooms: one that reads two steps, and one that reads one.
-    two_places : {a c x y : ℕ} → (a < s) × (c < s) → x ≡ room_bytes width * a → y ≡ room_bytes width * c → Places width (length xs) base x y (count + 1)
+    two_places : {a c x y : ℕ} → (a < s) × (c < s) → x ≡ room_bytes width * a → y ≡ room_bytes width * c → Places width (length xs) base x y (length es + 1)
     two_places l e f = record {
       sized = m.sized;
       room = room_inside;
@@ -80,7 +78,7 @@ module _ {width : ℕ} {kept : List ℕ} {count : ℕ} {xs : List ℕ} {s : ℕ}
     }
 
     abbrev AsksTwo : (ℕ → ℕ → Operation) → Type 0
-    AsksTwo op = (a c x y : ℕ) → o ≡ op a c → x ≡ room_bytes width * a → y ≡ room_bytes width * c → Places width (length xs) base x y (count + 1)
+    AsksTwo op = (a c x y : ℕ) → o ≡ op a c → x ≡ room_bytes width * a → y ≡ room_bytes width * c → Places width (length xs) base x y (length es + 1)
 
     asks_two : (op : ℕ → ℕ → Operation) → ((k a c : ℕ) → LegalOperation k s (op a c) → (a < s) × (c < s)) → AsksTwo op
     asks_two op l a c x y e = two_places (l m.k a c (rw e at m.legal))
@@ -101,7 +99,7 @@ module _ {width : ℕ} {kept : List ℕ} {count : ℕ} {xs : List ℕ} {s : ℕ}
     unfolding LegalOperation
     both_places = asks_two Both (λ k a c l. l)
 
-    pub closure_places : (a x : ℕ) → o ≡ Closure a → x ≡ room_bytes width * a → Closable width xs base x (count + 1)
+    pub closure_places : (a x : ℕ) → o ≡ Closure a → x ≡ room_bytes width * a → Closable width xs base x (length es + 1)
     unfolding LegalOperation
     closure_places a x e f =
         let l : a < s = rw e at m.legal in
@@ -111,70 +109,62 @@ module _ {width : ℕ} {kept : List ℕ} {count : ℕ} {xs : List ℕ} {s : ℕ}
           on = λ v w h. let on = m.on a l v w (sym (ap (λ (y : ℕ). rows_at width xs y v w) f) ∙ h) in (omega (arith, on.0, size), omega (arith, on.1, size));
         }
 
-    testable : (test : Test) → ((x : ℕ) → test ≡ Related x → x + room_bytes width ≤ base) → Testable width base (length kept) count test
-    testable test h = record { sized = m.sized; before = h; few = let w = m.sized in omega (arith, m.nodes.few); held = m.nodes.room }
-
-    pub itself_asks : Testable width base (length kept) count Always
-    itself_asks = testable Always (λ x e. let z : ◌≡◌ {A = ℕ} 0 1 = cc in absurd (omega arith))
-
-    pub text_asks : (number : ℕ) → Testable width base (length kept) count (Texts number)
-    text_asks number = testable (Texts number) (λ x e. let z : ◌≡◌ {A = ℕ} 0 1 = cc in absurd (omega arith))
-
-    pub has_asks : (a x : ℕ) → o ≡ Has a → x ≡ room_bytes width * a → Testable width base (length kept) count (Related x)
+    pub has_asks : (a : ℕ) (x : Room) → o ≡ Has a → x.base ≡ room_bytes width * a → Testable width base es (Related x)
     unfolding LegalOperation
     has_asks a x e f =
         let l : a < s = rw e at m.legal in
-        testable (Related x) (λ y h. let same : x ≡ y = cc in omega (arith, operand_before l f b))
+        let w = m.sized in
+        record { sized = m.sized; before = λ y h. let same : x ≡ y = cc in rw same at (operand_before l f b); few = omega (arith, m.nodes.few) }
 
     -- What each operation makes is its step's rows.
     module _ (ys : List ℕ) where
       abbrev Right : Type 0
-      Right = RoomMade width xs ys (room_bytes width * s) (rows (shown kept count) (rooms_in width xs s) o)
+      Right = RoomMade width xs ys (room_bytes width * s) (rows (view es) (rooms_in width xs s) o)
 
-      of_rows : (r : Relation) → ((v w : ℕ) → r v w ≡ rows (shown kept count) (rooms_in width xs s) o v w) → RoomMade width xs ys base (up_to (count + 1) r) → Right
+      of_rows : (r : Relation) → ((v w : ℕ) → r v w ≡ rows (view es) (rooms_in width xs s) o v w) → RoomMade width xs ys base (up_to (length es + 1) r) → Right
       unfolding up_to
-      of_rows r h k = made_as width b k λ v w. ap (λ (t : Bool). ltb v (count + 1) && t) (h v w) ∙ up_to_all (count + 1) _ (λ v w e. (within v w e).0) v w
+      of_rows r h k = made_as width b k λ v w. ap (λ (t : Bool). ltb v (length es + 1) && t) (h v w) ∙ up_to_all (length es + 1) _ (λ v w e. (within v w e).0) v w
 
-      of_tests : (test : Test) → ((v w : ℕ) → eqb v w && passing width (shown kept count) xs test v ≡ rows (shown kept count) (rooms_in width xs s) o v w)
-          → RoomMade width xs ys base (columns (count + 1) (diagonal (passing width (shown kept count) xs test))) → Right
+      of_tests : (test : Test) → ((v w : ℕ) → eqb v w && passing width (view es) xs test v ≡ rows (view es) (rooms_in width xs s) o v w)
+          → RoomMade width xs ys base (columns (length es + 1) (diagonal (passing width (view es) xs test))) → Right
       unfolding columns diagonal
-      of_tests test h k = made_as width b k λ v w. ap (λ (t : Bool). ltb w (count + 1) && t) (h v w) ∙ columns_all (count + 1) _ (λ v w e. (within v w e).1) v w
+      of_tests test h k = made_as width b k λ v w. ap (λ (t : Bool). ltb w (length es + 1) && t) (h v w) ∙ columns_all (length es + 1) _ (λ v w e. (within v w e).1) v w
 
-      pub table_made : (mask : ℕ) → o ≡ Table mask → RoomMade width xs ys base (rows (shown kept count) [] (Table mask)) → Right
+      pub table_made : (mask : ℕ) → o ≡ Table mask → RoomMade width xs ys base (rows (view es) [] (Table mask)) → Right
       unfolding rows
       table_made mask e k = rw e (made_as width b k λ v w. refl)
 
-      pub itself_made : o ≡ Itself → RoomMade width xs ys base (columns (count + 1) (diagonal (passing width (shown kept count) xs Always))) → Right
+      pub itself_made : o ≡ Itself → RoomMade width xs ys base (columns (length es + 1) (diagonal (passing width (view es) xs Always))) → Right
       unfolding rows passing
       itself_made e = of_tests Always (λ v w. rw e)
 
       pub text_none_made : (number : ℕ) → o ≡ Text number → number ≡ 0 → RoomMade width xs ys base nothing → Right
-      text_none_made number e z k = rw (e, z) (made_as width b k λ v w. sym (text_0_has_no_rows (shown kept count) (rooms_in width xs s) v w))
+      text_none_made number e z k = rw (e, z) (made_as width b k λ v w. sym (text_0_has_no_rows (view es) (rooms_in width xs s) v w))
 
-      pub text_made : (number : ℕ) → o ≡ Text number → (number ≡ 0 → ⊥) → RoomMade width xs ys base (columns (count + 1) (diagonal (passing width (shown kept count) xs (Texts number)))) → Right
+      pub text_made : (number : ℕ) → o ≡ Text number → (number ≡ 0 → ⊥) → RoomMade width xs ys base (columns (length es + 1) (diagonal (passing width (view es) xs (Texts number)))) → Right
       unfolding rows passing text_test is_text
       text_made number e some = of_tests (Texts number) (λ v w. rw (e, lt-ltb 0 number (omega arith)))
 
-      pub has_made : (a x : ℕ) → o ≡ Has a → x ≡ room_bytes width * a → RoomMade width xs ys base (columns (count + 1) (diagonal (passing width (shown kept count) xs (Related x)))) → Right
+      pub has_made : (a : ℕ) (x : Room) → o ≡ Has a → x.base ≡ room_bytes width * a → RoomMade width xs ys base (columns (length es + 1) (diagonal (passing width (view es) xs (Related x)))) → Right
       unfolding rows passing has LegalOperation
       has_made a x e f = of_tests (Related x) (λ v w. rw (e, operand_is (rw e at m.legal) f))
 
-      pub closure_made : (a x : ℕ) → o ≡ Closure a → x ≡ room_bytes width * a → RoomMade width xs ys base (closure (count + 1) (rows_at width xs x)) → Right
+      pub closure_made : (a x : ℕ) → o ≡ Closure a → x ≡ room_bytes width * a → RoomMade width xs ys base (closure (length es + 1) (rows_at width xs x)) → Right
       unfolding rows LegalOperation
       closure_made a x e f k = rw e (made_as width b k λ v w. ap₂ (λ (n : ℕ) (r : Relation). closure n r v w) size (operand_is (rw e at m.legal) f))
 
       abbrev OfTwo : (ℕ → ℕ → Operation) → (Relation → Relation → Relation) → Type 0
-      OfTwo op f = (a c x y : ℕ) → o ≡ op a c → x ≡ room_bytes width * a → y ≡ room_bytes width * c → RoomMade width xs ys base (up_to (count + 1) (f (rows_at width xs x) (rows_at width xs y))) → Right
+      OfTwo op f = (a c x y : ℕ) → o ≡ op a c → x ≡ room_bytes width * a → y ≡ room_bytes width * c → RoomMade width xs ys base (up_to (length es + 1) (f (rows_at width xs x) (rows_at width xs y))) → Right
 
       of_two : (op : ℕ → ℕ → Operation) (f : Relation → Relation → Relation) → ((k a c : ℕ) → LegalOperation k s (op a c) → (a < s) × (c < s))
-          → ((a c v w : ℕ) → f (at (rooms_in width xs s) a) (at (rooms_in width xs s) c) v w ≡ rows (shown kept count) (rooms_in width xs s) (op a c) v w) → OfTwo op f
+          → ((a c v w : ℕ) → f (at (rooms_in width xs s) a) (at (rooms_in width xs s) c) v w ≡ rows (view es) (rooms_in width xs s) (op a c) v w) → OfTwo op f
       of_two op f l r a c x y e p q k =
           let legal : (a < s) × (c < s) = l m.k a c (rw e at m.legal) in
           of_rows (f (at (rooms_in width xs s) a) (at (rooms_in width xs s) c)) (λ v w. r a c v w ∙ rw e) (rw (operand_is legal.0 p, operand_is legal.1 q) at k)
 
-      pub join_made : OfTwo Join (join (count + 1))
+      pub join_made : OfTwo Join (join (length es + 1))
       unfolding rows LegalOperation
-      join_made = of_two Join (join (count + 1)) (λ k a c l. l) λ a c v w. ap (λ (n : ℕ). join n (at (rooms_in width xs s) a) (at (rooms_in width xs s) c) v w) size
+      join_made = of_two Join (join (length es + 1)) (λ k a c l. l) λ a c v w. ap (λ (n : ℕ). join n (at (rooms_in width xs s) a) (at (rooms_in width xs s) c) v w) size
 
       pub union_made : OfTwo Union (mixed_rows Either)
       unfolding rows LegalOperation unite mixed_rows mixes
@@ -194,14 +184,9 @@ pub ruleset laws = (
   diff_places,
   both_places,
   closure_places,
-  room_inside,
-  itself_asks,
-  text_asks,
   has_asks,
   table_made,
   itself_made,
-  text_none_made,
-  text_made,
   has_made,
   closure_made,
   join_made,

@@ -52,18 +52,6 @@ module _ (size : ℕ) (r : Relation) where
     pub still : grew ≡ false → (v w : ℕ) → after v w ≡ true → before v w ≡ true
     pub rising : back ≡ false → (v u : ℕ) → from ≤ v → v < size → r v u ≡ true → v < u
 
-  pub sweeping_none : (b : Relation) → Sweeping b b size false false
-  sweeping_none b = record {
-    grown = record {
-      keeps = λ v w h. h;
-      takes = λ v u w l m. absurd (omega arith);
-      settles = λ v u w l m. absurd (omega arith);
-      sound = λ p over in_p. in_p;
-    };
-    still = λ e v w h. h;
-    rising = λ e v u l m. absurd (omega arith);
-  }
-
   -- One row more has taken in: v's, from what is there by now.
   module _ {b c d : Relation} (v : ℕ) {limit : ℕ} {g k t s : Bool} (n : Sweeping b c (v + 1) g k) (on : On limit r)
       (now : (u w : ℕ) → d u w ≡ changed v (gathered limit c (r v) (c v)) c u w) (few : On limit d)
@@ -127,11 +115,6 @@ module _ (size : ℕ) (r : Relation) where
           (λ o. never (sym (neither k s e).1 ∙ behind ∙ any_in (v + 1) (r v) u (omega arith) (sym (ap (λ (y : ℕ). r y u) q) ∙ h))))
           (λ q. n.rising (neither k s e).0 x u (omega arith) m h);
     }
-
-  -- a sweep that ends so that another would add nothing: nothing grew, or every row leads up
-  pub sweeping_closed : {b c : Relation} (g k : Bool) → Sweeping b c 0 g k → g && k ≡ false → (v u w : ℕ) → v < size → r v u ≡ true → c u w ≡ true → c v w ≡ true
-  sweeping_closed true k n e v u w l q h = n.grown.settles v u w (omega arith) l (n.rising e v u (omega arith) l q) q h
-  sweeping_closed false k n e v u w l q h = n.grown.takes v u w (omega arith) l q (n.still refl u w h)
 
   -- as many as k steps are in, and nothing that is not in the closure
   pub record Closing (after : Relation) (k : ℕ) : Type 0 where

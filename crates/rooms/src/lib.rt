@@ -1,13 +1,13 @@
 // Rooms: the steps of a program, each made in its room of a lent work area, and the nodes that the last one selects.
 #![tactic(auto)]
 
-ghost use Rattle.std.specs.Prelude.{◌≡◌, ◌*◌, ◌≤◌, ◌<◌, length};
-ghost use Rattle.meaning.specs.Limits.{room_bytes};
+ghost use Rattle.std.specs.Prelude.{◌≡◌, ◌*◌, ◌≤◌, length};
+ghost use Rattle.meaning.specs.Limits.{small, room_bytes};
+ghost use Rattle.meaning.specs.Documents.{view};
 ghost use Rattle.meaning.specs.Operations.{rows};
 ghost use Rattle.meaning.specs.Inside.Records.{operations_in};
 ghost use Rattle.rooms.specs.Layout.{work_byte, overwritten};
-ghost use Rattle.rooms.specs.Inside.Rooms.{RowWidth, RoomMade};
-ghost use Rattle.elements.specs.Inside.Packing.{shown};
+ghost use Rattle.rooms.specs.Inside.Rooms.{RoomMade};
 ghost use Rattle.rooms.specs.Inside.FitToRun.{FitToRun};
 ghost use Rattle.rooms.specs.Inside.Steps.{rooms_in, Makeable};
 ghost use Rattle.rooms.specs.Run.{performed, Gives};
@@ -16,127 +16,64 @@ mod room;
 mod row;
 
 use crate::room::Test;
-use meaning::{Answer, Operation, Program, Reason, SMALL, Step};
+use crate::row::Room;
+use meaning::{Answer, Element, Operation, Program, Reason, Step};
 use rows::Mix;
 
-// The place of a step's room.
-fn room_at(step: usize, width: usize) -> usize
-    requires { RowWidth width × (step < 256) }
-    ensures { result ≡ room_bytes width * step }
+// The room of the step with this number.
+fn room_of(step: u8) -> Room
+    ensures { result.base ≡ room_bytes small.row * step }
 {
-    width * width * 8 * step
-}
-
-// The place of the room of the step with this number.
-fn place(step: u8, width: usize) -> usize
-    requires { RowWidth width }
-    ensures { result ≡ room_bytes width * step }
-{
-    room_at(step as usize, width)
+    Room::of(usize::from(step))
 }
 
 // Makes a step in the room of its number, from the rooms of its operands.
-fn make(work: &mut [u8], kept: &[u32], count: usize, step: Step, width: usize)
-    requires { Makeable width kept.now count work.old step.number step.operation }
-    ensures { RoomMade width work.old work.new (room_bytes width * step.number) (rows (shown kept.now count) (rooms_in width work.old step.number) step.operation) }
+fn make(work: &mut [u8], elements: &[Element], step: Step)
+    requires { Makeable small.row elements.now work.old step.number step.operation }
+    ensures { RoomMade small.row work.old work.new (room_bytes small.row * step.number) (rows (view elements.now) (rooms_in small.row work.old step.number) step.operation) }
 {
-    let base = place(step.number, width);
-    let size = count + 1;
-    let operation = step.operation;
-    match operation {
-        Operation::Table(mask) => room::table(work, base, kept, count, mask, width),
-        Operation::Itself => room::diagonal(work, base, kept, count, Test::Always, width),
+    let room = room_of(step.number);
+    let size = elements.len() + 1;
+    match step.operation {
+        Operation::Table(mask) => room.table(work, elements, mask),
+        Operation::Itself => room.diagonal(work, elements, Test::Always),
         // 0 is the number of no text.
-        Operation::Text(number) => {
-            if number == 0 {
-                room::clear(work, base, width)
-            } else {
-                room::diagonal(work, base, kept, count, Test::Text(number), width)
-            }
-        }
-        Operation::Join(a, b) => room::join(
-            work,
-            base,
-            place(a, width),
-            place(b, width),
-            size,
-            width,
-        ),
-        Operation::Union(a, b) => room::mix(
-            work,
-            base,
-            place(a, width),
-            place(b, width),
-            size,
-            Mix::Either,
-            width,
-        ),
-        Operation::Closure(a) => room::closure(work, base, place(a, width), size, width),
-        Operation::Has(a) => room::diagonal(
-            work,
-            base,
-            kept,
-            count,
-            Test::Related(place(a, width)),
-            width,
-        ),
-        Operation::Diff(a, b) => room::mix(
-            work,
-            base,
-            place(a, width),
-            place(b, width),
-            size,
-            Mix::First,
-            width,
-        ),
-        Operation::Both(a, b) => room::mix(
-            work,
-            base,
-            place(a, width),
-            place(b, width),
-            size,
-            Mix::Both,
-            width,
-        ),
+        Operation::Text(0) => room.clear(work),
+        Operation::Text(number) => room.diagonal(work, elements, Test::Text(number)),
+        Operation::Join(a, b) => room.join(work, room_of(a), room_of(b), size),
+        Operation::Union(a, b) => room.mix(work, room_of(a), room_of(b), size, Mix::Either),
+        Operation::Closure(a) => room.closure(work, room_of(a), size),
+        Operation::Has(a) => room.diagonal(work, elements, Test::Related(room_of(a))),
+        Operation::Diff(a, b) => room.mix(work, room_of(a), room_of(b), size, Mix::First),
+        Operation::Both(a, b) => room.mix(work, room_of(a), room_of(b), size, Mix::Both),
     }
 }
 
 // Makes the steps in turn.
-fn perform(work: &mut [u8], kept: &[u32], count: usize, program: Program, width: usize)
-    requires { RowWidth width × FitToRun kept.now count program × (room_bytes width * program.count ≤ length work.old) }
-    ensures { work.new ≡ overwritten (work_byte width (shown kept.now count) (operations_in program)) (room_bytes width * program.count) work.old }
+fn perform(work: &mut [u8], elements: &[Element], program: &Program)
+    requires { FitToRun elements.now program.now × (room_bytes small.row * program.now.count ≤ length work.old) }
+    ensures { work.new ≡ overwritten (work_byte small.row (view elements.now) (operations_in program.now)) (room_bytes small.row * program.now.count) work.old }
 {
-    let steps = program.count;
-    let mut s: usize = 0;
-    while s < steps {
-        let step = program.steps[s];
-        make(work, kept, count, step, width);
-        s += 1;
+    for step in &program.steps[..program.count] {
+        make(work, elements, *step);
     }
 }
 
-// Runs a program over the first count elements that are kept. Where a buffer is too short, nothing is written to either.
-pub fn run_over(
-    kept: &[u32],
-    count: usize,
-    program: Program,
-    out: &mut [u8],
-    work: &mut [u8],
-) -> Answer
-    requires { FitToRun kept.now count program }
-    ensures { Gives (performed (shown kept.now count) (operations_in program) out.old work.old) result out.new work.new }
+// Runs a program over elements. Where a buffer is too short, nothing is written to either.
+pub fn run_over(elements: &[Element], program: &Program, out: &mut [u8], work: &mut [u8]) -> Answer
+    requires { FitToRun elements.now program.now }
+    ensures { Gives (performed (view elements.now) (operations_in program.now) out.old work.old) result out.new work.new }
 {
-    let width = SMALL.row;
-    let size = count + 1;
-    let steps = program.count;
+    let size = elements.len() + 1;
     if out.len() < size {
         return writing::refused(Reason::Room);
     }
-    if work.len() < room_at(steps, width) {
+    // The rooms end where one more would start.
+    if work.len() < Room::of(program.count).base() {
         return writing::refused(Reason::Room);
     }
-    perform(work, kept, count, program, width);
-    let selected = row::read(work, room_at(steps - 1, width), 0, width);
-    rows::list(selected, size, out);
-    writing::accepted(rows::count(selected))
+    perform(work, elements, program);
+    let selected = Room::of(program.count - 1).read(work, 0);
+    selected.list(size, out);
+    writing::accepted(selected.count())
 }

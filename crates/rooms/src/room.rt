@@ -1,35 +1,39 @@
-// The relations that a room can hold. A room is made of a document or of rooms that stand before it, and each is given by
-// the place where it starts; rows have width bytes.
+// The relations that a room can hold. A room is made of a document or of rooms that stand before it.
 ghost use Rattle.std.specs.Prelude.{◌≡◌, ◌+◌, ◌≤◌, ◌<◌, length, []};
 ghost use Rattle.meaning.specs.declared.Operation.TheVariants.{Table};
-ghost use Rattle.meaning.specs.Limits.{row_bits, room_bytes};
+ghost use Rattle.meaning.specs.Limits.{small, row_bits, room_bytes};
 ghost use Rattle.meaning.specs.Sets.{bit};
 ghost use Rattle.meaning.specs.Inside.Diagonal.{diagonal};
 ghost use Rattle.meaning.specs.Relations.{nothing, join, closure};
+ghost use Rattle.meaning.specs.Documents.{view};
 ghost use Rattle.meaning.specs.Operations.{rows};
 ghost use Rattle.rows.specs.Inside.Rows.{in_row, Bits, rows_at, mixed_rows};
-ghost use Rattle.elements.specs.Inside.Packing.{shown};
 ghost use Rattle.rooms.specs.Inside.FitToRun.{Nodes};
-ghost use Rattle.rooms.specs.Inside.Rooms.{RowWidth, up_to, columns, starting, passing, combined, Places, Testable, RoomMade, TakenIn, Swept, Closable};
+ghost use Rattle.rooms.specs.Inside.Rooms.{up_to, columns, starting, passing, combined, Places, Testable, RoomMade, TakenIn, Swept, Closable};
 
-use crate::row;
-use numbers::u8_to_usize;
-use rows::Mix;
+use crate::row::{BITS, Room};
+use meaning::Element;
+use rows::{Mix, Row};
 
-// No rows.
-pub(crate) fn clear(work: &mut [u8], base: usize, width: usize)
-    requires { base + room_bytes width ≤ length work.old }
-    ensures { RoomMade width work.old work.new base nothing }
-{
-    let size = width * width * 8;
-    let mut k: usize = 0;
-    while k < size {
-        work[base + k] = 0;
-        k += 1;
-    }
+// What is asked of a number: nothing, that its element has a text number, or that a room has a row from it. A closure would
+// hold the work area, which is written while the room is made.
+#[derive(Clone, Copy)]
+pub enum Test {
+    Always,
+    Text(u16),
+    Related(Room),
+}
+
+// How a row is made of two rooms: the two rows of its number, mixed; or those rows of the second that the first's row names,
+// through numbers that are there. A closure would hold the work area too.
+#[derive(Clone, Copy)]
+pub enum Way {
+    Mixed(Mix),
+    Joined(Row),
 }
 
 // Whether a mask names a type.
+#[tactic(auto, using(meaning::proofs::Bits::bit_shifted))]
 fn names(mask: u16, kind: u8) -> bool
     requires { kind < 16 }
     ensures { result ≡ bit mask kind }
@@ -37,207 +41,135 @@ fn names(mask: u16, kind: u8) -> bool
     (mask >> kind) % 2 == 1
 }
 
-// TABLE: each element whose type the mask names, from its parent.
-pub(crate) fn table(
-    work: &mut [u8],
-    base: usize,
-    kept: &[u32],
-    count: usize,
-    mask: u16,
-    width: usize,
-)
-    requires { (base + room_bytes width ≤ length work.old) × (count < row_bits width) × Nodes kept.now count }
-    ensures { RoomMade width work.old work.new base (rows (shown kept.now count) [] (Table mask)) }
-{
-    clear(work, base, width);
-    let mut w: usize = 1;
-    while w <= count {
-        let element = elements::unpacked(kept[w - 1]);
-        let there = names(mask, element.kind);
-        row::put(work, base, u8_to_usize(element.parent), w, there, width);
-        w += 1;
+impl Test {
+    fn passes(self, work: &[u8], elements: &[Element], v: usize) -> bool
+        requires { Testable small.row (length work.now) elements.now self × (v ≤ length elements.now) }
+        ensures { result ≡ passing small.row (view elements.now) work.now self v }
+    {
+        match self {
+            Test::Always => true,
+            Test::Text(number) => v != 0 && elements[v - 1].text == number,
+            Test::Related(a) => a.first(work, v) <= elements.len(),
+        }
     }
 }
 
-// What is asked of a number: nothing, that its element has a text number, or that the room at a place has a row from it.
-#[derive(Clone, Copy)]
-pub enum Test {
-    Always,
-    Text(u16),
-    Related(usize),
+impl Way {
+    // The row of v in a room that is made of rooms a and b.
+    fn row(self, work: &[u8], a: Room, b: Room, v: usize) -> Row
+        requires { (a.base + room_bytes small.row ≤ length work.now) × (b.base + room_bytes small.row ≤ length work.now) × (v < row_bits small.row) }
+        ensures { Bits result.words (combined (row_bits small.row) self (rows_at small.row work.now a.base) (rows_at small.row work.now b.base) v) }
+    {
+        let left = a.read(work, v);
+        match self {
+            Way::Mixed(how) => left.mixed(how, b.read(work, v)),
+            Way::Joined(there) => b.gather(work, left.mixed(Mix::Both, there), Row::empty()),
+        }
+    }
 }
 
-fn passes(work: &[u8], kept: &[u32], count: usize, test: Test, v: usize, width: usize) -> bool
-    requires { Testable width (length work.now) (length kept.now) count test × (v ≤ count) }
-    ensures { result ≡ passing width (shown kept.now count) work.now test v }
-{
-    match test {
-        Test::Always => true,
-        Test::Text(number) => {
-            if v == 0 {
-                return false;
+impl Room {
+    // TABLE: each element whose type the mask names, from its parent.
+    pub fn table(self, work: &mut [u8], elements: &[Element], mask: u16)
+        requires { (self.base + room_bytes small.row ≤ length work.old) × Nodes elements.now }
+        ensures { RoomMade small.row work.old work.new self.base (rows (view elements.now) [] (Table mask)) }
+    {
+        self.clear(work);
+        for (i, element) in elements.iter().enumerate() {
+            let there = names(mask, element.kind);
+            self.put(work, usize::from(element.parent), i + 1, there);
+        }
+    }
+
+    // SELF, TEXT, HAS: each node that passes a test, to itself.
+    pub fn diagonal(self, work: &mut [u8], elements: &[Element], test: Test)
+        requires { (self.base + room_bytes small.row ≤ length work.old) × Testable small.row self.base elements.now test }
+        ensures { RoomMade small.row work.old work.new self.base (columns (length elements.now + 1) (diagonal (passing small.row (view elements.now) work.old test))) }
+    {
+        self.clear(work);
+        for v in 0..elements.len() + 1 {
+            let there = test.passes(work, elements, v);
+            self.put(work, v, v, there);
+        }
+    }
+
+    // The numbers below size from which the room has a row.
+    fn starts(self, work: &[u8], size: usize) -> Row
+        requires { (self.base + room_bytes small.row ≤ length work.now) × (size ≤ row_bits small.row) }
+        ensures { Bits result.words (starting (row_bits small.row) size (rows_at small.row work.now self.base)) }
+    {
+        let mut all = Row::empty();
+        for v in 0..size {
+            all = all.with(v, self.first(work, v) < BITS);
+        }
+        all
+    }
+
+    // Rooms a and b, combined row by row.
+    fn combine(self, work: &mut [u8], a: Room, b: Room, size: usize, way: Way)
+        requires { Places small.row (length work.old) self.base a.base b.base size }
+        ensures { RoomMade small.row work.old work.new self.base (up_to size (combined (row_bits small.row) way (rows_at small.row work.old a.base) (rows_at small.row work.old b.base))) }
+    {
+        self.clear(work);
+        for v in 0..size {
+            let made = way.row(work, a, b, v);
+            self.write(work, v, made);
+        }
+    }
+
+    // UNION, AND, DIFF.
+    pub fn mix(self, work: &mut [u8], a: Room, b: Room, size: usize, how: Mix)
+        requires { Places small.row (length work.old) self.base a.base b.base size }
+        ensures { RoomMade small.row work.old work.new self.base (up_to size (mixed_rows how (rows_at small.row work.old a.base) (rows_at small.row work.old b.base))) }
+    {
+        self.combine(work, a, b, size, Way::Mixed(how));
+    }
+
+    // JOIN. Most names lead to an empty row, so those that don't are found first.
+    pub fn join(self, work: &mut [u8], a: Room, b: Room, size: usize)
+        requires { Places small.row (length work.old) self.base a.base b.base size }
+        ensures { RoomMade small.row work.old work.new self.base (up_to size (join size (rows_at small.row work.old a.base) (rows_at small.row work.old b.base))) }
+    {
+        let there = b.starts(work, size);
+        self.combine(work, a, b, size, Way::Joined(there));
+    }
+
+    // The row of v takes in those rows of its room that room a names for v. Whether it grew.
+    fn take_in(self, work: &mut [u8], a: Room, v: usize) -> bool
+        requires { Places small.row (length work.old) self.base a.base a.base (row_bits small.row) × (v < row_bits small.row) }
+        ensures { TakenIn small.row work.old work.new self.base a.base v result }
+    {
+        let before = self.read(work, v);
+        let after = self.gather(work, a.read(work, v), before);
+        self.write(work, v, after);
+        after.mixed(Mix::First, before).next(0) < BITS
+    }
+
+    // Each row takes in, the last first: so one sweep is enough where a row names higher numbers only. Whether another may
+    // add to it.
+    fn sweep(self, work: &mut [u8], a: Room, size: usize) -> bool
+        requires { Places small.row (length work.old) self.base a.base a.base size }
+        ensures { Swept small.row size work.old work.new self.base a.base result }
+    {
+        let mut grew = false;
+        let mut back = false;
+        for v in (0..size).rev() {
+            grew |= self.take_in(work, a, v);
+            back |= a.first(work, v) <= v;
+        }
+        grew & back
+    }
+
+    // LFP: room a, closed under one or more steps. A sweep adds a step at least, and size steps are always enough.
+    pub fn closure(self, work: &mut [u8], a: Room, size: usize)
+        requires { Closable small.row work.old self.base a.base size }
+        ensures { RoomMade small.row work.old work.new self.base (closure size (rows_at small.row work.old a.base)) }
+    {
+        self.mix(work, a, a, size, Mix::Either);
+        for _ in 1..size {
+            if !self.sweep(work, a, size) {
+                return;
             }
-            let element = elements::unpacked(kept[v - 1]);
-            element.text == number
         }
-        Test::Related(a) => row::first(work, a, v, width) <= count,
-    }
-}
-
-// SELF, TEXT, HAS: each node that passes a test, to itself.
-pub(crate) fn diagonal(
-    work: &mut [u8],
-    base: usize,
-    kept: &[u32],
-    count: usize,
-    test: Test,
-    width: usize,
-)
-    requires { (base + room_bytes width ≤ length work.old) × Testable width base (length kept.now) count test }
-    ensures { RoomMade width work.old work.new base (columns (count + 1) (diagonal (passing width (shown kept.now count) work.old test))) }
-{
-    clear(work, base, width);
-    let mut v: usize = 0;
-    while v <= count {
-        let there = passes(work, kept, count, test, v, width);
-        row::put(work, base, v, v, there, width);
-        v += 1;
-    }
-}
-
-// The numbers below size from which the room at a has a row.
-fn starts(work: &[u8], a: usize, size: usize, width: usize) -> [u64; 2]
-    requires { RowWidth width × (a + room_bytes width ≤ length work.now) × (size ≤ row_bits width) }
-    ensures { Bits result (starting (row_bits width) size (rows_at width work.now a)) }
-{
-    let mut all = [0u64; 2];
-    let mut v: usize = 0;
-    while v < size {
-        let first = row::first(work, a, v, width);
-        let more = rows::with(all, v, first < 8 * width);
-        all = more;
-        v += 1;
-    }
-    all
-}
-
-// How a row is made of the rooms at a and b: the two rows of its number, mixed; or the rows of b that a's row names.
-#[derive(Clone, Copy)]
-pub enum Way {
-    Mixed(Mix),
-    Joined,
-}
-
-// The row of v in a room that is made of the rooms at a and b; it is joined through numbers that are there.
-fn combined(
-    work: &[u8],
-    a: usize,
-    b: usize,
-    v: usize,
-    way: Way,
-    there: [u64; 2],
-    width: usize,
-) -> [u64; 2]
-    requires { RowWidth width × (a + room_bytes width ≤ length work.now) × (b + room_bytes width ≤ length work.now) × (v < row_bits width) }
-    ensures { Bits result (combined (row_bits width) way (in_row there) (rows_at width work.now a) (rows_at width work.now b) v) }
-{
-    let left = row::read(work, a, v, width);
-    match way {
-        Way::Mixed(how) => rows::mixed(how, left, row::read(work, b, v, width)),
-        Way::Joined => rows::gather(work, b, rows::mixed(Mix::Both, left, there), [0; 2]),
-    }
-}
-
-// The rooms at a and b, combined row by row.
-fn combine(
-    work: &mut [u8],
-    base: usize,
-    a: usize,
-    b: usize,
-    size: usize,
-    way: Way,
-    there: [u64; 2],
-    width: usize,
-)
-    requires { Places width (length work.old) base a b size }
-    ensures { RoomMade width work.old work.new base (up_to size (combined (row_bits width) way (in_row there) (rows_at width work.old a) (rows_at width work.old b))) }
-{
-    clear(work, base, width);
-    let mut v: usize = 0;
-    while v < size {
-        let made = combined(work, a, b, v, way, there, width);
-        row::write(work, base, v, made, width);
-        v += 1;
-    }
-}
-
-// UNION, AND, DIFF.
-pub(crate) fn mix(
-    work: &mut [u8],
-    base: usize,
-    a: usize,
-    b: usize,
-    size: usize,
-    how: Mix,
-    width: usize,
-)
-    requires { Places width (length work.old) base a b size }
-    ensures { RoomMade width work.old work.new base (up_to size (mixed_rows how (rows_at width work.old a) (rows_at width work.old b))) }
-{
-    combine(work, base, a, b, size, Way::Mixed(how), [0; 2], width);
-}
-
-// JOIN. Most names lead to an empty row, so those that don't are found first.
-pub(crate) fn join(work: &mut [u8], base: usize, a: usize, b: usize, size: usize, width: usize)
-    requires { Places width (length work.old) base a b size }
-    ensures { RoomMade width work.old work.new base (up_to size (join size (rows_at width work.old a) (rows_at width work.old b))) }
-{
-    let there = starts(work, b, size, width);
-    combine(work, base, a, b, size, Way::Joined, there, width);
-}
-
-// The row of v takes in those rows of the room at base that the room at a names for v. Whether it grew.
-fn take_in(work: &mut [u8], base: usize, a: usize, v: usize, width: usize) -> bool
-    requires { Places width (length work.old) base a a (row_bits width) × (v < row_bits width) }
-    ensures { TakenIn width work.old work.new base a v result }
-{
-    let before = row::read(work, base, v, width);
-    let after = rows::gather(work, base, row::read(work, a, v, width), before);
-    row::write(work, base, v, after, width);
-    rows::next(rows::mixed(Mix::First, after, before), 0) < 8 * width
-}
-
-// Each row takes in, the last first: so one sweep is enough where a row names higher numbers only. Whether another may add
-// to it.
-fn sweep(work: &mut [u8], base: usize, a: usize, size: usize, width: usize) -> bool
-    requires { Places width (length work.old) base a a size }
-    ensures { Swept width size work.old work.new base a result }
-{
-    let mut grew = false;
-    let mut back = false;
-    let mut v = size;
-    while 0 < v {
-        v -= 1;
-        let more = take_in(work, base, a, v, width);
-        grew = grew | more;
-        let first = row::first(work, a, v, width);
-        back = back | (first <= v);
-    }
-    grew & back
-}
-
-// LFP: the room at a, closed under one or more steps. A sweep adds a step at least, and size steps are always enough.
-pub(crate) fn closure(work: &mut [u8], base: usize, a: usize, size: usize, width: usize)
-    requires { Closable width work.old base a size }
-    ensures { RoomMade width work.old work.new base (closure size (rows_at width work.old a)) }
-{
-    mix(work, base, a, a, size, Mix::Either, width);
-    let mut steps: usize = 1;
-    while steps < size {
-        let again = sweep(work, base, a, size, width);
-        if !again {
-            return;
-        }
-        steps += 1;
     }
 }

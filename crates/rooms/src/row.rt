@@ -1,35 +1,85 @@
-// A row of a room: of the room that starts at a place, the row of a number.
-ghost use Rattle.std.specs.Prelude.{◌+◌, ◌≤◌, ◌<◌, length};
-ghost use Rattle.meaning.specs.Limits.{row_bits, room_bytes};
-ghost use Rattle.rows.specs.Inside.Rows.{in_row, rows_at, Bits, Next};
-ghost use Rattle.rooms.specs.Inside.Rooms.{RowWidth, changed, added, RoomMade};
+// A room of the work area, and its rows.
+ghost use Rattle.std.specs.Prelude.{◌≡◌, ◌+◌, ◌*◌, ◌≤◌, ◌<◌, length};
+ghost use Rattle.meaning.specs.Limits.{small, row_bits, room_bytes};
+ghost use Rattle.meaning.specs.Relations.{nothing};
+ghost use Rattle.rows.specs.Inside.Rows.{in_row, rows_at, gathered, Bits, Next};
+ghost use Rattle.rooms.specs.Inside.Rooms.{changed, added, RoomMade};
 
-pub(crate) fn read(work: &[u8], a: usize, v: usize, width: usize) -> [u64; 2]
-    requires { RowWidth width × (a + room_bytes width ≤ length work.now) × (v < row_bits width) }
-    ensures { Bits result (rows_at width work.now a v) }
-{
-    rows::read(work, rows::place(a, v, width))
+use meaning::SMALL;
+use rows::Row;
+
+// The bytes of a row, its bits, and the bytes of a room, which has as many rows as a row has bits.
+const WIDTH: usize = SMALL.row;
+
+pub const BITS: usize = 8 * WIDTH;
+
+const BYTES: usize = WIDTH * BITS;
+
+// A room is named by the place where it starts. The work area goes beside it: with it in each room that is read or made, two
+// would hold it at once.
+#[derive(Clone, Copy)]
+pub struct Room {
+    base: usize,
 }
 
-pub(crate) fn write(work: &mut [u8], base: usize, v: usize, row: [u64; 2], width: usize)
-    requires { RowWidth width × (base + room_bytes width ≤ length work.old) × (v < row_bits width) }
-    ensures { RoomMade width work.old work.new base (changed v (in_row row) (rows_at width work.old base)) }
-{
-    rows::write(work, rows::place(base, v, width), row);
-}
+impl Room {
+    // The room of a step: each stands behind the one before.
+    pub fn of(step: usize) -> Room
+        requires { step < 256 }
+        ensures { result.base ≡ room_bytes small.row * step }
+    {
+        Room { base: BYTES * step }
+    }
 
-// Puts w into the row of v, where it is to be there.
-pub(crate) fn put(work: &mut [u8], base: usize, v: usize, w: usize, there: bool, width: usize)
-    requires { (base + room_bytes width ≤ length work.old) × (v < row_bits width) × (w < row_bits width) }
-    ensures { RoomMade width work.old work.new base (added v w there (rows_at width work.old base)) }
-{
-    rows::put(work, rows::place(base, v, width), w, there);
-}
+    pub fn base(self) -> usize
+        ensures { result ≡ self.base }
+    {
+        self.base
+    }
 
-// The first number that the row of v has, or as many as a row has bits.
-pub(crate) fn first(work: &[u8], a: usize, v: usize, width: usize) -> usize
-    requires { RowWidth width × (a + room_bytes width ≤ length work.now) × (v < row_bits width) }
-    ensures { Next (row_bits width) (rows_at width work.now a v) 0 result }
-{
-    rows::next(read(work, a, v, width), 0)
+    // No rows.
+    pub fn clear(self, work: &mut [u8])
+        requires { self.base + room_bytes small.row ≤ length work.old }
+        ensures { RoomMade small.row work.old work.new self.base nothing }
+    {
+        work[self.base..self.base + BYTES].fill(0);
+    }
+
+    pub fn read(self, work: &[u8], v: usize) -> Row
+        requires { (self.base + room_bytes small.row ≤ length work.now) × (v < row_bits small.row) }
+        ensures { Bits result.words (rows_at small.row work.now self.base v) }
+    {
+        Row::read(work, rows::place(self.base, v, WIDTH))
+    }
+
+    pub fn write(self, work: &mut [u8], v: usize, row: Row)
+        requires { (self.base + room_bytes small.row ≤ length work.old) × (v < row_bits small.row) }
+        ensures { RoomMade small.row work.old work.new self.base (changed v (in_row row.words) (rows_at small.row work.old self.base)) }
+    {
+        row.write(work, rows::place(self.base, v, WIDTH));
+    }
+
+    // Puts w into the row of v, where it is to be there.
+    pub fn put(self, work: &mut [u8], v: usize, w: usize, there: bool)
+        requires { (self.base + room_bytes small.row ≤ length work.old) × (v < row_bits small.row) × (w < row_bits small.row) }
+        ensures { RoomMade small.row work.old work.new self.base (added v w there (rows_at small.row work.old self.base)) }
+    {
+        rows::put(work, rows::place(self.base, v, WIDTH), w, there);
+    }
+
+    // The first number that the row of v has, or as many as a row has bits.
+    pub fn first(self, work: &[u8], v: usize) -> usize
+        requires { (self.base + room_bytes small.row ≤ length work.now) × (v < row_bits small.row) }
+        ensures { Next (row_bits small.row) (rows_at small.row work.now self.base v) 0 result }
+    {
+        self.read(work, v).next(0)
+    }
+
+    // A row with those rows of the room taken in that `which` names.
+    pub fn gather(self, work: &[u8], which: Row, start: Row) -> Row
+        requires { self.base + room_bytes small.row ≤ length work.now }
+        ensures { Bits result.words (gathered (row_bits small.row) (rows_at small.row work.now self.base) (in_row which.words) (in_row start.words)) }
+    {
+        start.gather(work, self.base, which)
+    }
 }

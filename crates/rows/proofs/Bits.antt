@@ -2,7 +2,7 @@
 use Prim.Native.Nat.{ℕ, zero, suc, ◌+◌, ◌-◌, ◌*◌, ◌/◌, ◌%◌, ◌^◌, ◌<◌, suc-le-suc}
 use mathlib.Core.Path.{◌≡◌, refl, sym, ap, ap₂, ◌∙◌}
 use mathlib.Core.Bool.{Bool, true, false, not, ◌&&◌, and-true, and_self, cond}
-use mathlib.Core.List.{List, [], ◌∷◌}
+use mathlib.Core.List.{List}
 use native.Mathlib.Nat.{div-div-eq-div-mul, pow-succ', div-one, pow-suc, zero-add, suc-add, one-mul, not-suc-le-zero}
 use native.Mathlib.Omega.{arith}
 use borrow.Author.Rules.{rules}
@@ -11,12 +11,8 @@ use lib.Dec.{eqb, eqb-suc-zero, eqb-suc-suc}
 use lib.Pow.{shl_exact}
 use lib.ListN.{get_or}
 use mir.Syntax.{w64}
-use mir.Val.{Val, Fits}
-use denote.Array.{Array, each}
-use denote.Plain.{UInt}
-use denote.Shadow.{shadow}
-use denote.Laws.{Is}
-use lib.Bits.{bit_and, bit_or, and_lt, or_lt, and_le_r}
+use mir.Val.{Fits}
+use lib.Bits.{bit_and, bit_or, and_lt, or_lt}
 use lib.Count.{count_trailing_zeros, under}
 use Rattle.meaning.specs.Sets.{bit, mask}
 use Rattle.meaning.proofs.Sets.{bit_none}
@@ -83,14 +79,11 @@ lowest_by k m t zero e l h = record { below = suc-le-suc (h refl).below; isset =
 lowest_by k m t (suc zero) e l h = record { below = omega arith; isset = eq-eqb (m % 2) 1 e; zeros = λ i q. absurd (not-suc-le-zero q) }
 lowest_by k m t (suc (suc d)) e l h = absurd (omega arith)
 
-lowest_is : (k m : ℕ) → 0 < m → m < 2 ^ k → Lowest k m (count_trailing_zeros k m)
+pub lowest_is : (k m : ℕ) → 0 < m → m < 2 ^ k → Lowest k m (count_trailing_zeros k m)
 unfolding count_trailing_zeros
 lowest_is zero m p l = absurd (omega arith)
 lowest_is (suc k) m p l =
     lowest_by k m (count_trailing_zeros k (m / 2)) (m % 2) refl (omega arith) (λ e. lowest_is k (m / 2) (omega arith) (omega (arith, pow-suc 2 k)))
-
-pub lowest_found : {k m t : ℕ} → 0 < m → m < 2 ^ k → t ≡ count_trailing_zeros k m → Lowest k m t
-lowest_found {k} {m} p l e = rw e (lowest_is k m p l)
 
 -- the bits of a power of 2
 pub bit_power : (k : ℕ) → bit (2 ^ k) k ≡ true
@@ -128,22 +121,9 @@ rest_bit (suc t) (suc i) m h z =
 pub bit_rest : {n m t : ℕ} → Lowest n m t → (i : ℕ) → bit (bit_and m (m - 1)) i ≡ bit m i && not (eqb i t)
 bit_rest {m = m} {t} low i = bit_and_lem i m (m - 1) ∙ rest_bit t i m low.isset low.zeros
 
-pub rest_less : (m : ℕ) → (m ≡ 0 → ⊥) → bit_and m (m - 1) < m
-rest_less m some = omega (arith, and_le_r m (m - 1))
-
 -- bit i of word k of a row
 pub word_bit : (row : List ℕ) (k i : ℕ) → i < 64 → in_row row (64 * k + i) ≡ bit (get_or row k 0) i
 unfolding bit_in
 word_bit row k i l = ap₂ (λ (x y : ℕ). bit (get_or row x 0) y) (omega arith) (omega arith)
-
--- what a function takes as a row has words that fit
-elements_fit : (xs : List ℕ) (us : List Val) → shadow (each ℕ (UInt w64).own_val xs us) → (i : ℕ) → get_or xs i 0 < 2 ^ 64
-elements_fit [] us s i = omega arith
-elements_fit (x ∷ xs) [] s i = absurd s
-elements_fit (x ∷ xs) (u ∷ us) s zero = s.0.1
-elements_fit (x ∷ xs) (u ∷ us) s (suc i) = elements_fit xs us s.1 i
-
-pub words_fit : (n : ℕ) (xs : List ℕ) {vs : List Val} → Is (Array (UInt w64) n) xs vs → (i : ℕ) → get_or xs i 0 < 2 ^ 64
-words_fit n xs p = elements_fit xs p.0 p.1.1
 
 pub ruleset laws = (mixed_either, mixed_both, mixed_first, rules)

@@ -1,13 +1,14 @@
--- Loops over bytes: nothing written, one byte more, and stretches as lists.
-use Prim.Native.Nat.{ℕ, ◌+◌, ◌≤◌, ◌<◌}
+-- Bytes that are written over others, and stretches as lists.
+use Prim.Native.Nat.{ℕ, ◌+◌, ◌-◌, ◌≤◌, ◌<◌}
 use mathlib.Core.Path.{◌≡◌, refl, sym, ap, ◌∙◌}
 use mathlib.Core.List.{List}
 use mathlib.Core.Logic.{◌⊎◌, ⊎_elim}
 use native.Mathlib.Omega.{arith}
-use borrow.Author.Count.{below_none, below_more}
-use lib.ListN.{length, get_or, set, take, drop, length-set, length-take, length-drop, get_or-eq_default}
-use lib.Seq.{get_or-set_same, get_or-set_other, get_or-take, get_or-drop, drop-set-add, take-set-lt, ext_get_or}
-use Rattle.rows.specs.Inside.Rows.{stretch, OthersStay, BytesMade}
+use borrow.Rule.Slice.PartMut.{put_mid}
+use lib.ListN.{length, get_or, set, take, drop, length-set, length-take, length-drop, length-append, get_or-append, get_or-eq_default}
+use lib.Seq.{get_or-set_other, get_or-take, get_or-drop, drop-set-add, take-set-lt, ext_get_or}
+use Rattle.std.proofs.lemmas.List.{take_at, drop_at, get_or-append_right}
+use Rattle.rows.specs.Inside.Rows.{stretch, OthersStay}
 
 pub kept_all : {xs : List ℕ} {from size : ℕ} → OthersStay xs xs from size
 kept_all = record { same = refl; before = λ i l. refl; after = λ i l. refl }
@@ -30,28 +31,23 @@ kept_set {xs} {ys} {from} {size} j v a b k = record {
   after = λ i l. get_or-set_other ys j i v 0 (omega arith) ∙ k.after i l;
 }
 
-pub written_none : {xs : List ℕ} {from : ℕ} {f : ℕ → ℕ} → BytesMade xs xs from 0 f
-written_none = record { bytes = below_none _; others = kept_all }
+-- bytes that are put over others: they stand there, and all else stays
+module _ (xs ys : List ℕ) (at size : ℕ) (room : at + size ≤ length xs) (long : length ys ≡ size) where
+  front : length (take at xs) ≡ at
+  front = omega (arith, length-take at xs)
 
--- one byte more
-written_next : {xs ys : List ℕ} {from k : ℕ} {f : ℕ → ℕ} → BytesMade xs ys from k f → from + k < length ys → BytesMade xs (set ys (from + k) (f k)) from (k + 1) f
-written_next {xs} {ys} {from} {k} {f} w l = record {
-  bytes =
-      below_more (λ (i : ℕ). get_or (set ys (from + k) (f k)) (from + i) 0 ≡ f i) k
-      (λ i m. get_or-set_other ys (from + k) (from + i) (f k) 0 (omega arith) ∙ w.bytes i m)
-      (get_or-set_same ys (from + k) (f k) 0 l);
-  others = kept_set (from + k) (f k) (omega arith) (omega arith) (kept_wider (omega arith) w.others);
-}
+  pub put_there : stretch size (put_mid at size xs ys) at ≡ ys
+  unfolding stretch
+  put_there = rw (drop_at (take at xs) _ at front) (take_at ys _ size long)
 
--- the turn of a loop that writes size bytes from a place on
-pub written_more : {xs ys zs : List ℕ} {from k size : ℕ} {f : ℕ → ℕ} → BytesMade xs ys from k f → k < size → from + size ≤ length xs
-    → zs ≡ set ys (from + k) (f k) → BytesMade xs zs from (k + 1) f
-written_more w l r e = rw e (written_next w (omega (arith, w.others.same)))
-
--- the same, where a call gave the byte
-pub written_called : {xs ys zs : List ℕ} {from k size v : ℕ} {f : ℕ → ℕ} → BytesMade xs ys from k f → k < size → from + size ≤ length xs → v ≡ f k
-    → zs ≡ set ys (from + k) v → BytesMade xs zs from (k + 1) f
-written_called {ys = ys} {from = from} {k = k} w l r h e = written_more w l r (e ∙ ap (set ys (from + k)) h)
+  pub put_others : OthersStay xs (put_mid at size xs ys) at size
+  put_others = record {
+    same = simp (length-append, length-take, length-drop) (omega arith);
+    before = λ i l. get_or-append (take at xs) _ 0 i (omega (arith, front)) ∙ get_or-take at xs i 0 l;
+    after = λ i l.
+        get_or-append_right (take at xs) _ at i 0 front (omega arith) ∙ get_or-append_right ys _ size (i - at) 0 long (omega arith)
+        ∙ get_or-drop size (drop at xs) (i - at - size) 0 ∙ get_or-drop at xs (size + (i - at - size)) 0 ∙ ap (λ (j : ℕ). get_or xs j 0) (omega arith);
+  }
 
 module _ (size : ℕ) (xs : List ℕ) (at : ℕ) where
   pub stretch_length : at + size ≤ length xs → length (stretch size xs at) ≡ size

@@ -5,7 +5,6 @@ use mathlib.Core.Bool.{Bool, false, not, ◌&&◌, ◌||◌, and-true, and-false
 use mathlib.Core.List.{List}
 use native.Mathlib.Nat.{add-zero, add-suc, mul-add}
 use native.Mathlib.Omega.{arith}
-use borrow.Author.Rules.{rules}
 use borrow.Author.Tests.{eq-eqb, ne_eqb, lt-ltb}
 use lib.Bits.{bit_and}
 use lib.Dec.{eqb}
@@ -16,7 +15,7 @@ use Rattle.rows.specs.declared.Mix.{Mix}
 use Rattle.rows.specs.declared.Mix.TheVariants.{Either, Both, First}
 use Rattle.rows.specs.Inside.Rows.{bit_in, in_row, in_bytes, stretch, rows_from, rows_at, Bits, gathered, mixes, mixed_word, Lowest}
 use Rattle.rows.proofs.Cases.{by_order, by_equal}
-use Rattle.rows.proofs.Bits.{bit_rest, rest_less, word_bit}
+use Rattle.rows.proofs.Bits.{bit_rest, word_bit}
 use Rattle.rows.proofs.Rows.{row_end}
 use Rattle.rows.proofs.Searches.{any_still}
 
@@ -79,9 +78,6 @@ module _ (size width : ℕ) (bytes : List ℕ) (at : ℕ) where
   pub record Gathering (which : ℕ) (start : List ℕ) (left : ℕ) (all : List ℕ) : Type 0 where
     pub same : (w : ℕ) → gathered size (rows_from width bytes at) (bit left) (in_row all) w ≡ gathered size (rows_from width bytes at) (bit which) (in_row start) w
 
-  pub gathering_none : (which : ℕ) (start : List ℕ) → Gathering which start which start
-  gathering_none which start = record { same = λ w. refl }
-
   module _ {which left : ℕ} {start all : List ℕ} (g : Gathering which start left all) where
     pub gathering_more : {t : ℕ} {row more : List ℕ} → Lowest size left t → Bits row (in_bytes (stretch width bytes (at + width * t)))
         → Bits more (λ w. mixes Either (in_row all w) (in_row row w)) → Gathering which start (bit_and left (left - 1)) more
@@ -119,5 +115,3 @@ module _ (width : ℕ) (bytes : List ℕ) (base : ℕ) (which : List ℕ) (f : �
 
       split : (w : ℕ) → any (64 * (k + 1)) (named w) ≡ any (64 * k) (named w) || any 64 (λ u. named w (64 * k + u))
       split w = let next : 64 * (k + 1) ≡ 64 * k + 64 = omega arith in rw next (any_split (64 * k) 64 (named w))
-
-pub ruleset gather_laws = (gathering_none, gathering_more, gathering_all, rest_less, rules)

@@ -1,17 +1,11 @@
 -- Laws of rows: their bits, and what the functions on rows make of them.
-use Prim.Native.Nat.{ℕ, ◌+◌, ◌-◌, ◌*◌, ◌/◌, ◌%◌, ◌^◌, ◌≤◌, ◌<◌}
-use mathlib.Core.Path.{◌≡◌, refl, sym, ap, ap₂, ◌∙◌}
+use Prim.Native.Nat.{ℕ, ◌+◌, ◌-◌, ◌*◌, ◌/◌, ◌%◌, ◌^◌, ◌≤◌, ◌<◌, min}
+use mathlib.Core.Path.{◌≡◌, refl, sym, ap, ◌∙◌}
 use mathlib.Core.Bool.{Bool, true, false, ◌||◌, or-false}
 use mathlib.Core.List.{List}
-use native.Mathlib.Nat.{mod-lt, div-add-mod', mul-le-mul_left}
+use native.Mathlib.Nat.{zero-add, mod-lt, div-add-mod', mul-le-mul_left}
 use borrow.Author.Tests.{eq-eqb, ne_eqb, lt-ltb}
 use native.Mathlib.Omega.{arith}
-use borrow.Author.Rules.{rules}
-use mir.Syntax.{w64}
-use mir.Val.{Val}
-use denote.Array.{Array}
-use denote.Plain.{UInt}
-use denote.Laws.{Is}
 use lib.Dec.{eqb}
 use lib.Bits.{bit_or}
 use lib.ListN.{length, get_or, set, replicate, length-replicate, get_or-replicate, get_or-eq_default}
@@ -22,7 +16,7 @@ use Rattle.meaning.proofs.Sets.{bit_none}
 use Rattle.rows.specs.Inside.Rows.{bit_in, in_row, in_bytes, Bits, including, stretch, rows_at, Placed, Lowest, RowMade, Next}
 use Rattle.rows.proofs.Cases.{by_order, by_equal}
 use Rattle.meaning.proofs.Bits.{bits_below, bit_or_lem}
-use Rattle.rows.proofs.Bits.{bit_shifted, shifted_one, bit_power, bit_power_other, words_fit}
+use Rattle.rows.proofs.Bits.{bit_shifted, shifted_one, bit_power, bit_power_other, word_bit}
 use Rattle.rows.proofs.Bytes.{kept_all, kept_set, stretch_length, stretch_at, stretch_past, stretch_set}
 
 -- past its end a row has no bits
@@ -114,60 +108,50 @@ module _ (width : ℕ) (xs : List ℕ) (at w : ℕ) (there : Bool) where
       others = kept_set (at + w / 8) byte (omega arith) (omega arith) kept_all;
     }
 
--- The search for the next bit of a row has reached w.
-pub record Seeking (limit : ℕ) (row : List ℕ) (from w : ℕ) : Type 0 where
-  pub ahead : from ≤ w
-  pub most : w ≤ limit
-  pub none : (x : ℕ) → from ≤ x → x < w → in_row row x ≡ false
+-- The next bit of a word is the lowest of what a shift leaves, or there is none.
+module _ (n from : ℕ) where
+  shifted_bit : (x : ℕ) → from ≤ x → bit n x ≡ bit (n / 2 ^ from) (x - from)
+  shifted_bit x l = let e : from + (x - from) ≡ x = omega arith in ap (bit n) (sym e) ∙ sym (bit_shifted from (x - from) n)
 
-pub seeking_start : (row : List ℕ) {limit from : ℕ} → from ≤ limit → Seeking limit row from from
-seeking_start row l = record { ahead = omega arith; most = l; none = λ x a b. absurd (omega arith) }
+  pub word_found : {t : ℕ} → n < 2 ^ 64 → Lowest 64 (n / 2 ^ from) t → Next 64 (bit n) from (from + t)
+  word_found {t} small low =
+      let there : bit n (from + t) ≡ true = sym (bit_shifted from t n) ∙ low.isset in
+      record {
+        ahead = omega arith;
+        most = omega (arith, bits_below 64 n small (from + t) there);
+        none = λ x a b. shifted_bit x a ∙ low.zeros (x - from) (omega arith);
+        found = λ l. there;
+      }
 
-module _ {limit from w : ℕ} {row : List ℕ} (s : Seeking limit row from w) where
-  pub seeking_end : limit ≤ w → Next limit (in_row row) from limit
-  seeking_end l = record {
-    ahead = omega (arith, s.ahead, s.most);
+  pub word_ended : from ≤ 64 → (from < 64 → n / 2 ^ from ≡ 0) → Next 64 (bit n) from 64
+  word_ended l h = record {
+    ahead = l;
     most = omega arith;
-    none = λ x a b. s.none x a (omega arith);
-    found = λ h. absurd (omega arith);
+    none = λ x a b. shifted_bit x a ∙ ap (λ (m : ℕ). bit m (x - from)) (h (omega arith)) ∙ bit_none (x - from);
+    found = λ m. absurd (omega arith);
   }
 
-  -- what is left, from w on, of the word that holds it
-  abbrev rest : ℕ
-  rest = get_or row (w / 64) 0 / 2 ^ (w % 64)
+-- The next bit of a row of two words is in the first of them, or in the second.
+module _ (row : List ℕ) (from : ℕ) {w : ℕ} (low : Next 64 (bit (get_or row 0 0)) (min from 64) w) where
+  first : (x : ℕ) → x < 64 → in_row row x ≡ bit (get_or row 0 0) x
+  first x l = rw zero-add at (word_bit row 0 x l)
 
-  rest_bit : (j : ℕ) → w % 64 + j < 64 → in_row row (w + j) ≡ bit rest j
-  unfolding bit_in
-  rest_bit j l =
-      let q : (w + j) / 64 ≡ w / 64 = omega arith in
-      let r : (w + j) % 64 ≡ w % 64 + j = omega arith in
-      ap₂ (λ (k i : ℕ). bit (get_or row k 0) i) q r ∙ sym (bit_shifted (w % 64) j (get_or row (w / 64) 0))
+  second : (x : ℕ) → 64 ≤ x → x < 128 → in_row row x ≡ bit (get_or row 1 0) (x - 64)
+  second x h k = let e : 64 * 1 + (x - 64) ≡ x = omega arith in ap (in_row row) (sym e) ∙ word_bit row 1 (x - 64) (omega arith)
 
-  -- no bit of it below j is set, nor is one before w
-  none_before : (j : ℕ) → w % 64 + j ≤ 64 → ((i : ℕ) → i < j → bit rest i ≡ false) → (x : ℕ) → from ≤ x → x < w + j → in_row row x ≡ false
-  none_before j l zeros x a b =
-      by_order x w (s.none x a) λ h.
-      let e : w + (x - w) ≡ x = omega arith in
-      ap (in_row row) (sym e) ∙ rest_bit (x - w) (omega arith) ∙ zeros (x - w) (omega arith)
+  pub row_found : w < 64 → Next 128 (in_row row) from w
+  row_found l = record {
+    ahead = omega (arith, low.ahead);
+    most = omega arith;
+    none = λ x a b. first x (omega arith) ∙ low.none x (omega arith) b;
+    found = λ h. first w l ∙ low.found l;
+  }
 
-  module _ (whole : limit % 64 ≡ 0) (l : w < limit) where
-    pub seeking_more : rest ≡ 0 → Seeking limit row from ((w / 64 + 1) * 64)
-    seeking_more e = record {
-      ahead = omega (arith, s.ahead);
-      most = omega arith;
-      none = λ x a b. none_before (64 - w % 64) (omega arith) (λ i m. ap (λ (n : ℕ). bit n i) e ∙ bit_none i) x a (omega arith);
-    }
-
-    pub seeking_found : {words k t : ℕ} {vs : List Val} → Is (Array (UInt w64) words) row vs → Lowest k rest t → Next limit (in_row row) from (w + t)
-    seeking_found {words} {t = t} fits low =
-        let small : w % 64 + t < 64 = bits_below 64 (get_or row (w / 64) 0) (words_fit words row fits (w / 64)) (w % 64 + t) (sym (bit_shifted (w % 64) t _) ∙ low.isset) in
-        record {
-          ahead = omega (arith, s.ahead);
-          most = omega arith;
-          none = none_before t (omega arith) low.zeros;
-          found = λ h. rest_bit t small ∙ low.isset;
-        }
-
-pub ruleset next_laws = (seeking_start, seeking_end, seeking_more, seeking_found, rules)
-
-pub ruleset laws = (with_none, put_none, put_one, rules)
+  pub row_onward : {v : ℕ} → from ≤ 128 → 64 ≤ w → Next 64 (bit (get_or row 1 0)) (from - 64) v → Next 128 (in_row row) from (64 + v)
+  row_onward {v} m l high = record {
+    ahead = omega (arith, high.ahead);
+    most = omega (arith, high.most);
+    none = λ x a b.
+        by_order x 64 (λ h. first x h ∙ low.none x (omega arith) (omega arith)) (λ h. second x h (omega (arith, high.most)) ∙ high.none (x - 64) (omega arith) (omega arith));
+    found = λ h. word_bit row 1 v (omega arith) ∙ high.found (omega arith);
+  }

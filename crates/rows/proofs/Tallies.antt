@@ -6,13 +6,11 @@ use mathlib.Core.List.{List, [], ◌∷◌, ◌++◌}
 use native.Mathlib.Nat.{add-zero, add-suc, pow-suc}
 use native.Mathlib.Numerals.{one-add}
 use native.Mathlib.Omega.{arith}
-use borrow.Author.Rules.{rules}
 use lib.Dec.{eqb}
 use lib.Count.{ones, ones_step}
 use lib.ListN.{length, get_or, set, length-append, length-set}
 use Rattle.meaning.specs.Sets.{bit, listed}
 use Rattle.meaning.proofs.Sets.{listed_cong}
-use Rattle.writing.specs.Lent.{over}
 use Rattle.writing.specs.Inside.Put.{Put}
 use Rattle.writing.proofs.Puts.{put_nothing, put_then, put_byte}
 use Rattle.rows.specs.Inside.Rows.{in_row, Next}
@@ -81,23 +79,18 @@ module _ {limit size : ℕ} {f : ℕ → Bool} {old : List ℕ} where
       record { few = omega arith; most = n.most; found = n.found; same = refl; put = rw e (put_nothing 0 old) }
 
   module _ {new : List ℕ} {m w : ℕ} (s : Listing limit size f old new m w) (fits : size ≤ limit) (room : size ≤ length old) where
-    pub listing_more : {v x : ℕ} → w < size → Next limit f (w + 1) v → x ≡ w → Listing limit size f old (set new m x) (m + 1) v
+    pub listing_more : {v : ℕ} → w < size → Next limit f (w + 1) v → Listing limit size f old (set new m w) (m + 1) v
     unfolding listed
-    listing_more {v} l n e =
+    listing_more {v} l n =
         let at-w : min w size ≡ w = omega arith in
         let vs : List ℕ = listed w f in
         let now : Put 0 vs old new m = rw at-w at s.put in
         let past : listed (min v size) f ≡ vs ++ (w ∷ []) =
         listed_still (suc w) (min v size) f (omega (arith, n.ahead)) (λ x p q. n.none x (omega arith) (omega arith)) ∙ ap (λ (b : Bool). vs ++ cond b (w ∷ []) []) (s.found (omega arith)) in
-        rw e record {
+        record {
           few = omega (arith, s.few, n.ahead);
           most = n.most;
           found = n.found;
           same = length-set new m w ∙ s.same;
-          put = rw past (put_then (omega arith) now (put_byte m w new (omega (arith, s.few, s.same))));
+          put = rw past (put_then now (put_byte m w new (omega (arith, s.few, s.same))));
         }
-
-    pub listing_all : size ≤ w → new ≡ over 0 (listed size f) old
-    listing_all l = let e : min w size ≡ size = omega arith in (rw e at s.put).there
-
-pub ruleset list_laws = (listing_none, listing_more, listing_all, rules)

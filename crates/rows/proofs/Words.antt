@@ -1,24 +1,26 @@
 -- Laws of words and bytes: a word has the bits of the bytes that it is read from or written to.
 use Prim.Native.Nat.{ℕ, zero, suc, ◌+◌, ◌-◌, ◌*◌, ◌/◌, ◌%◌, ◌^◌, ◌≤◌, ◌<◌}
 use mathlib.Core.Path.{◌≡◌, refl, sym, ap, ap₂, ◌∙◌}
-use mathlib.Core.Bool.{Bool, true, false, and-true, cond}
+use mathlib.Core.Bool.{and-true}
 use mathlib.Core.List.{List, [], ◌∷◌}
 use mathlib.Core.Logic.{inl}
-use native.Mathlib.Nat.{zero-add, add-zero, suc-add, mul-one, mul_assoc, mod-lt, pow-suc}
+use native.Mathlib.Nat.{zero-add, add-zero, pow-suc, div-one}
 use native.Mathlib.Omega.{arith}
-use borrow.Author.Rules.{rules}
-use lib.Bits.{bit_or, and_mask, or_block, or_zero_r}
-use lib.ListN.{length, get_or}
-use lib.Pow.{pow_pos, shl_exact}
+use borrow.Rule.Slice.PartMut.{put_mid}
+use lib.Bits.{and_mask}
+use lib.ListN.{length, get_or, get_or-eq_default}
+use lib.Pow.{pow_pos, pow-add}
+use Rattle.std.specs.Int.{w64, byte_at, bytes_low_first, to_le_bytes, from_le_bytes}
+use Rattle.std.proofs.lemmas.Nat.{le_bytes_8}
 use Rattle.meaning.specs.Limits.{small}
 use Rattle.meaning.specs.Sets.{bit, mask}
 use Rattle.meaning.proofs.Tests.{fails}
 use Rattle.meaning.proofs.Sets.{bit_none, bit_mask}
-use Rattle.meaning.proofs.Bits.{mask_cong, bits_below, bit_and_lem}
-use Rattle.rows.specs.Inside.Rows.{bit_in, in_row, in_bytes, stretch, Bits, BytesMade, RowMade}
+use Rattle.meaning.proofs.Bits.{bits_below, bit_and_lem}
+use Rattle.rows.specs.Inside.Rows.{bit_in, in_row, in_bytes, stretch, Bits, RowMade}
 use Rattle.rows.proofs.Cases.{by_order}
 use Rattle.rows.proofs.Bits.{bit_shifted, bit_not, digit, is_mask}
-use Rattle.rows.proofs.Bytes.{written_called, kept_wider, kept_inside, stretch_kept}
+use Rattle.rows.proofs.Bytes.{put_there, put_others, kept_wider, kept_inside, stretch_length, stretch_at, stretch_past, stretch_kept}
 use Rattle.rows.proofs.Rows.{row_bit, row_past, row_end}
 
 -- the low digits of a number have its low bits
@@ -27,53 +29,50 @@ bit_low n m i l =
     let ones : 2 ^ n - 1 ≡ 2 ^ n - 1 - 0 = omega arith in
     rw (← (and_mask m n), bit_and_lem, ones, bit_not n i 0 (pow_pos n) l, bit_none) (and-true _)
 
--- n bits of a number from bit j on
-pub part_of : (n j m : ℕ) → m / 2 ^ j % 2 ^ n ≡ mask n (λ i. bit m (j + i))
-part_of n j m = is_mask n (m / 2 ^ j % 2 ^ n) _ (mod-lt _ (pow_pos n)) (λ i l. bit_low n (m / 2 ^ j) i l ∙ bit_shifted j i m)
+power_bytes : (k : ℕ) → 256 ^ k ≡ 2 ^ (8 * k)
+power_bytes zero = refl
+power_bytes (suc k) = let e : 8 * suc k ≡ 8 * k + 8 = omega arith in rw (pow-suc, power_bytes k, e, pow-add)
 
--- k bits more above the lowest n
-mask_more : (n k : ℕ) (f : ℕ → Bool) → bit_or (mask n f) (mask k (λ i. f (n + i)) * 2 ^ n) ≡ mask (n + k) f
-unfolding mask
-mask_more zero k f = rw (zero-add k, mul-one) (mask_cong k _ f (λ i l. ap f (zero-add i)))
-mask_more (suc n) k f =
-    let same : mask k (λ i. f (suc n + i)) ≡ mask k (λ i. f (suc (n + i))) = mask_cong k _ _ (λ i l. ap f (suc-add n i)) in
-    let shift : mask k (λ i. f (suc (n + i))) * 2 ^ suc n ≡ mask k (λ i. f (suc (n + i))) * 2 ^ n * 2 + 0 = rw (pow-suc, add-zero) (sym (mul_assoc _ _ _)) in
-    rw (same, shift, or_block 1 (mask n (λ i. f (suc i))) _ (cond (f 0) 1 0) 0 (small (f 0)) (omega arith), mask_more n k (λ i. f (suc i)), or_zero_r, suc-add)
+-- byte k of a word, and the bytes that std's `to_le_bytes` makes of it
+byte_is : (k n : ℕ) → byte_at k n ≡ n / 2 ^ (8 * k) % 2 ^ 8
+byte_is zero n = rw div-one
+byte_is (suc k) n = rw power_bytes
+
+bytes_at : (i k n j : ℕ) → j < k → get_or (bytes_low_first i k n) j 0 ≡ byte_at (i + j) n
+bytes_at i zero n j l = absurd (omega arith)
+bytes_at i (suc k) n zero l = rw add-zero
+bytes_at i (suc k) n (suc j) l = bytes_at (suc i) k n j (omega arith) ∙ ap (λ (x : ℕ). byte_at x n) (omega arith)
+
+-- its bytes have its bits
+pub word_bytes : (n : ℕ) → n < 2 ^ 64 → (w : ℕ) → in_bytes (to_le_bytes w64 n) w ≡ bit n w
+unfolding bit_in
+word_bytes n fits w = by_order (w / 8) 8 inside outside
   where
-    small : (b : Bool) → cond b 1 0 < 2
-    small true = omega arith
-    small false = omega arith
+    inside : w / 8 < 8 → in_bytes (to_le_bytes w64 n) w ≡ bit n w
+    inside l =
+        let e : 8 * (w / 8) + w % 8 ≡ w = omega arith in
+        ap (λ (b : ℕ). bit b (w % 8)) (bytes_at 0 8 n (w / 8) l ∙ ap (λ (k : ℕ). byte_at k n) (zero-add (w / 8)) ∙ byte_is (w / 8) n) ∙ bit_low 8 (n / 2 ^ (8 * (w / 8))) (w % 8) (omega arith)
+        ∙ bit_shifted (8 * (w / 8)) (w % 8) n ∙ ap (bit n) e
 
-module _ (width : ℕ) (xs : List ℕ) (at : ℕ) where
-  -- bit i of byte k
-  byte_bit : (k i : ℕ) → k < width → i < 8 → in_bytes (stretch width xs at) (8 * k + i) ≡ bit (get_or xs (at + k) 0) i
-  byte_bit k i l m =
-      let q : (8 * k + i) / 8 ≡ k = omega arith in
-      let r : (8 * k + i) % 8 ≡ i = omega arith in
-      row_bit width xs at (8 * k + i) (omega arith) ∙ ap₂ (λ (a b : ℕ). bit (get_or xs (at + a) 0) b) q r
+    outside : 8 ≤ w / 8 → in_bytes (to_le_bytes w64 n) w ≡ bit n w
+    outside l =
+        ap (λ (b : ℕ). bit b (w % 8)) (get_or-eq_default (to_le_bytes w64 n) 0 {n = w / 8} (omega arith)) ∙ bit_none (w % 8)
+        ∙ sym (fails (bit n w) (λ b. let s = bits_below 64 n fits w b in omega arith))
 
-  -- a word with one byte more
-  pub word_more : {k word byte : ℕ} → word ≡ mask (8 * k) (in_bytes (stretch width xs at)) → k < width → byte ≡ get_or xs (at + k) 0 → byte < 256
-      → bit_or word (byte * 2 ^ (8 * k) % 2 ^ (8 * width)) ≡ mask (8 * (k + 1)) (in_bytes (stretch width xs at))
-  word_more {k} {word} {byte} e l is small =
-      let exact : byte * 2 ^ (8 * k) % 2 ^ (8 * width) ≡ byte * 2 ^ (8 * k) = shl_exact 8 (8 * k) (8 * width) small (omega arith) in
-      let bits : byte ≡ mask 8 (λ i. in_bytes (stretch width xs at) (8 * k + i)) = is_mask 8 byte _ small (λ i m. ap (λ (b : ℕ). bit b i) is ∙ sym (byte_bit k i l m)) in
-      let more : 8 * (k + 1) ≡ 8 * k + 8 = omega arith in
-      rw (exact, e, bits, more) (mask_more (8 * k) 8 (in_bytes (stretch width xs at)))
-
--- the bytes of a word, written
-pub word_written : {xs ys : List ℕ} {at k : ℕ} (width word : ℕ) → BytesMade xs ys at k (λ j. mask 8 (λ i. bit word (8 * j + i))) → width ≤ k → k ≤ width → word < 2 ^ (8 * width)
-    → RowMade width xs ys at (bit word)
-word_written {xs} {ys} {at} {k} width word w l m small = record { bits = λ x. by_order (x / 8) width (inside x) (outside x); others = kept_wider m w.others }
+-- a word that is read from its bytes
+pub word_read : (xs : List ℕ) (at : ℕ) {bytes : List ℕ} {n : ℕ} → at + 8 ≤ length xs → ((i : ℕ) → get_or xs i 0 < 256) → n < 2 ^ 64 → bytes ≡ stretch 8 xs at → n ≡ from_le_bytes w64 bytes
+    → n ≡ mask 64 (in_bytes (stretch 8 xs at))
+word_read xs at {bytes} {n} l fits few e is =
+    is_mask 64 n _ few (λ i m. sym (word_bytes n few i) ∙ ap (λ (bs : List ℕ). in_bytes bs i) (le_bytes_8 (stretch 8 xs at) n (stretch_length 8 xs at l) byte_fits (rw e at is)))
   where
-    inside : (x : ℕ) → x / 8 < width → in_bytes (stretch width ys at) x ≡ bit word x
-    inside x h =
-        let e : 8 * (x / 8) + x % 8 ≡ x = omega arith in
-        row_bit width ys at x h ∙ ap (λ (b : ℕ). bit b (x % 8)) (w.bytes (x / 8) (omega arith))
-        ∙ bit_mask 8 (λ i. bit word (8 * (x / 8) + i)) (x % 8) (omega arith) ∙ ap (bit word) e
+    byte_fits : (i : ℕ) → get_or (stretch 8 xs at) i 0 < 256
+    byte_fits i = by_order i 8 (λ m. omega (arith, stretch_at 8 xs at i m, fits (at + i))) (λ m. omega (arith, stretch_past 8 xs at i m))
 
-    outside : (x : ℕ) → width ≤ x / 8 → in_bytes (stretch width ys at) x ≡ bit word x
-    outside x h = row_past width ys at x h ∙ sym (fails (bit word x) (λ b. let s = bits_below (8 * width) word small x b in omega arith))
+-- and one whose bytes are written
+pub word_written : (xs : List ℕ) (at : ℕ) {bytes : List ℕ} (n : ℕ) → at + 8 ≤ length xs → n < 2 ^ 64 → bytes ≡ to_le_bytes w64 n → RowMade 8 xs (put_mid at 8 xs bytes) at (bit n)
+word_written xs at {bytes} n l few e =
+    let long : length bytes ≡ 8 = ap length e in
+    record { bits = λ w. ap (λ (bs : List ℕ). in_bytes bs w) (put_there xs bytes at 8 l long ∙ e) ∙ word_bytes n few w; others = put_others xs bytes at 8 l long }
 
 -- a row whose words have the bits of eight bytes each
 row_words : (words : ℕ) (row xs : List ℕ) (at : ℕ) → length row ≡ words → ((k i : ℕ) → k < words → i < 64 → bit (get_or row k 0) i ≡ in_bytes (stretch 8 xs (at + 8 * k)) i)
@@ -112,5 +111,3 @@ row_stored {xs} {ys} {zs} {at} row e l a b =
       bits = λ w. sym (two_words row zs at e (λ i m. rw kept (sym (a.bits i))) (λ i m. sym (b.bits i)) w);
       others = kept_inside (omega arith) (omega arith) (kept_wider (omega arith) a.others) b.others;
     }
-
-pub ruleset laws = (written_called, word_written, row_taken, row_stored, rules)

@@ -1,5 +1,7 @@
 -- A run on files: a refusal ends it, and else the program is run over the elements.
-use Prim.Native.Nat.{ℕ}
+use Prim.Native.Nat.{ℕ, ◌≤◌}
+use Rattle.std.proofs.Common.{Ok}
+use lib.ListN.{length, take}
 use mathlib.Core.Path.{◌≡◌}
 use mathlib.Core.List.{List}
 use borrow.Author.Rules.{rules}
@@ -7,22 +9,19 @@ use Rattle.meaning.specs.declared.Answer.{Answer}
 use Rattle.meaning.specs.declared.Element.{Element}
 use Rattle.meaning.specs.declared.Graph.{Graph}
 use Rattle.meaning.specs.declared.Operation.{Operation}
-use Rattle.meaning.specs.declared.Outcome.{Outcome}
-use Rattle.meaning.specs.declared.Outcome.TheVariants.{Accepted, Refused}
-use Rattle.meaning.specs.declared.Program.{Program}
 use Rattle.meaning.specs.declared.Refusal.{Refusal}
 use Rattle.meaning.specs.Limits.{element_limit}
 use Rattle.meaning.specs.Documents.{view}
 use Rattle.meaning.specs.Inside.Records.{operations_in}
-use Rattle.fields.specs.Read.{got}
+use Rattle.fields.specs.Read.{got, refused}
 use Rattle.graph.specs.Gra.{graph_file}
 use Rattle.edg.specs.Edg.{tables_file}
 use Rattle.rel.specs.Rel.{program_file}
 use Rattle.writing.specs.Lent.{turned_away}
+use Rattle.files.specs.declared.Runnable.{Runnable}
 use Rattle.files.specs.Inside.Opens.{Opens, OfTablesThenProgram}
 use Rattle.files.specs.Files.{followed_by, tables_then_program}
 use Rattle.files.proofs.Handed.{under_got, then_got, mapped_got, mapped_refused}
-use Rattle.elements.specs.Inside.Packing.{shown}
 use Rattle.rooms.specs.Inside.FitToRun.{FitToRun}
 use Rattle.rooms.specs.Run.{performed, Gives}
 use Rattle.runner.specs.Run.{ran, to_run, run_of}
@@ -35,18 +34,19 @@ unfolding run_of ran
 runs_as gra edg rel out work {g} e f h =
     rw (mapped_got to_run (under_got gra (λ g. followed_by (tables_file element_limit g edg 0) (program_file g.k rel 0)) e (then_got (tables_file element_limit g edg 0) (program_file g.k rel 0) f h)))
 
-module _ (gra edg rel : List ℕ) {o : Outcome} {kept : List ℕ} {count : ℕ} {program : Program} (p : Opens (tables_then_program gra edg rel) o (OfTablesThenProgram kept count program)) where
-  pub run_away : (out work : List ℕ) {a : Answer} {r : Refusal} → o ≡ Refused r → a ≡ turned_away r → Gives (run_of gra edg rel out work) a out work
+module _ (gra edg rel : List ℕ) where
+  pub run_away : (out work : List ℕ) {r : Refusal} → tables_then_program gra edg rel ≡ refused r → Gives (run_of gra edg rel out work) (turned_away r) out work
   unfolding run_of ran
-  run_away out work h e = rw (mapped_refused to_run (p.turned h), e)
+  run_away out work h = rw (mapped_refused to_run h)
 
-  module _ (h : o ≡ Accepted) where
-    pub run_ready : FitToRun kept count program
-    run_ready = let (x, n, q, w) = p.held h in ready x.0 w.elements.legal w.elements.accepted w.elements.room w.elements.whole w.steps.lawful w.steps.whole w.steps.numbered
+  module _ (kept : List Element) (o : Runnable) (p : Opens (tables_then_program gra edg rel) (Ok o) (OfTablesThenProgram kept)) where
+    pub run_room : o.count ≤ length kept
+    run_room = let (x, n, q, w) = p in w.elements.room
 
-    pub run_on : (out work : List ℕ) {a : Answer} {out' work' : List ℕ} → Gives (performed (shown kept count) (operations_in program) out work) a out' work'
+    pub run_ready : FitToRun (take o.count kept) o.program
+    run_ready = let (x, n, q, w) = p in ready x.0 w.elements.legal w.elements.accepted w.steps.lawful w.steps.whole w.steps.numbered
+
+    pub run_on : (out work : List ℕ) {a : Answer} {out' work' : List ℕ} → Gives (performed (view (take o.count kept)) (operations_in o.program) out work) a out' work'
         → Gives (run_of gra edg rel out work) a out' work'
     unfolding run_of ran
-    run_on out work l = let (x, n, q, w) = p.held h in rw (mapped_got to_run q, w.elements.elements, w.steps.steps) l
-
-pub ruleset laws = (run_away, run_ready, run_on, rules)
+    run_on out work l = let (x, n, q, w) = p in rw (mapped_got to_run q, w.elements.elements, w.steps.steps) l

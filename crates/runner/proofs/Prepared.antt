@@ -13,19 +13,18 @@ use Rattle.meaning.specs.Operations.{LegalProgram}
 use Rattle.meaning.specs.Inside.Records.{operations_in, Numbered}
 use Rattle.meaning.proofs.KindSets.{edge_types}
 use Rattle.meaning.proofs.Views.{accepted_keeps}
-use Rattle.elements.specs.Inside.Packing.{kept_in}
+use Rattle.meaning.specs.declared.Element.{Element}
 use Rattle.rooms.specs.Inside.FitToRun.{Nodes, FitToRun}
 
-module _ (g : Graph) (legal : LegalGraph g) {kept : List ℕ} {count : ℕ} (a : Accepted element_limit g (kept_in kept count)) (room : count ≤ length kept) (whole : length (kept_in kept count) ≡ count) where
-  accepted_nodes : Nodes kept count
+module _ (g : Graph) (legal : LegalGraph g) {es : List Element} (a : Accepted element_limit g es) where
+  accepted_nodes : Nodes es
   accepted_nodes =
-      let keeps = accepted_keeps element_limit g (kept_in kept count) a in
+      let keeps = accepted_keeps element_limit g es a in
       record {
-        room = room;
-        few = omega (arith, a.most_elements, whole);
+        few = a.most_elements;
         parents = keeps.parent_there;
         kinds = λ w e. omega (arith, (edge_types g legal _ _ (keeps.edge w e)).1, legal.most_types);
       }
 
-  pub ready : {p : Program} → LegalProgram step_limit g.k (operations_in p) → length (operations_in p) ≡ p.count → Numbered p → FitToRun kept count p
+  pub ready : {p : Program} → LegalProgram step_limit g.k (operations_in p) → length (operations_in p) ≡ p.count → Numbered p → FitToRun es p
   ready l n s = record { nodes = accepted_nodes; whole = n; numbered = s; k = g.k; legal = l }

@@ -4,19 +4,16 @@
 ghost use Rattle.rooms.specs.Run.{Gives};
 ghost use Rattle.runner.specs.Run.{run_of};
 
-use elements::BLANK;
-use meaning::{Answer, Outcome, SMALL};
+use elements::DOCUMENT_NODE;
+use meaning::{Answer, SMALL};
 
 // Reads a graph, tables and a program, and runs the program over the tables' elements.
 pub fn run(gra: &[u8], edg: &[u8], rel: &[u8], out: &mut [u8], work: &mut [u8]) -> Answer
     ensures { Gives (run_of gra.now edg.now rel.now out.old work.old) result out.new work.new }
 {
-    let mut kept = [BLANK; SMALL.elements];
-    let opened = files::tables_then_program(gra, edg, rel, &mut kept);
-    let outcome = opened.outcome;
-    if let Outcome::Refused(refusal) = outcome {
-        return writing::turned_away(refusal);
+    let mut kept = [DOCUMENT_NODE; SMALL.elements];
+    match files::tables_then_program(gra, edg, rel, &mut kept) {
+        Ok(opened) => rooms::run_over(&kept[..opened.count], &opened.program, out, work),
+        Err(refusal) => writing::turned_away(refusal),
     }
-    let program = opened.program;
-    rooms::run_over(&kept, opened.count, program, out, work)
 }

@@ -1,24 +1,23 @@
 -- The file: the room is judged by its length, then header, k and the tables are written.
 use Prim.Native.Nat.{ℕ, zero, suc, ◌+◌, ◌*◌, ◌≤◌, ◌<◌}
 use mathlib.Core.List.{List}
-use mathlib.Core.Path.{◌≡◌, refl, ◌∙◌}
+use mathlib.Core.Path.{◌≡◌, refl}
 use native.Mathlib.Omega.{arith}
 use lib.ListN.{length, length-append}
-use borrow.Author.Rules.{rules}
 use Rattle.meaning.specs.declared.Answer.{Answer}
 use Rattle.meaning.specs.declared.Element.{Element}
 use Rattle.meaning.specs.declared.Graph.{Graph}
 use Rattle.meaning.specs.declared.Reason.TheVariants.{Room}
 use Rattle.meaning.specs.Graphs.{LegalGraph}
 use Rattle.meaning.specs.Documents.{Accepted}
-use Rattle.elements.specs.Inside.Packing.{kept_in}
 use Rattle.fields.specs.Write.{byte_of, header_of}
 use Rattle.edg.specs.Edg.{rows_of, rows_bytes, table_bytes, tables_of, tables_bytes}
 use Rattle.edg.proofs.Rows.{rows_length}
 use Rattle.edg.proofs.File.{tabled, tabled_count}
 use Rattle.writing.specs.Lent.{accepted, turned_away, stored, Leaves}
-use Rattle.writing.specs.Inside.Put.{Put}
-use Rattle.writing.proofs.Puts.{put_then, put_length}
+use Rattle.writing.specs.declared.Writer.{Writer}
+use Rattle.writing.specs.Inside.Wrote.{Wrote}
+use Rattle.writing.proofs.Writing.{wrote_then}
 use Rattle.writing.proofs.Stored.{stored_none, stored_all}
 use Rattle.shredder.specs.Inside.RowsFit.{HeldUnder, RowsFit}
 
@@ -38,33 +37,25 @@ pub tables_length : {limit : ℕ} {g : Graph} {es : List Element} → LegalGraph
 unfolding tables_bytes
 tables_length {g = g} {es} legal accepted = omega (arith, tabled_length es 0 g.k, tabled_count legal accepted)
 
-module _ {g : Graph} {kept : List ℕ} {count k : ℕ} (held : HeldUnder g kept count) (types : k ≡ g.k) where
-  file_length : length (tables_bytes g (kept_in kept count)) ≡ length_of_tables k count
-  file_length = tables_length held.legal held.accepted ∙ rw (types, held.long)
+module _ {g : Graph} {es : List Element} (held : HeldUnder g es) where
+  file_length : length (tables_bytes g es) ≡ length_of_tables g.k (length es)
+  file_length = tables_length held.legal held.accepted
 
-  pub no_room : {a : Answer} (out : List ℕ) → length out < length_of_tables k count → a ≡ turned_away (record { reason = Room }) → Leaves (stored (tables_bytes g (kept_in kept count)) out) a out
-  no_room out l e = rw e (stored_none (tables_bytes g (kept_in kept count)) out (omega (arith, file_length)))
+  pub no_room : {a : Answer} (out : List ℕ) → length out < length_of_tables g.k (length es) → a ≡ turned_away (record { reason = Room }) → Leaves (stored (tables_bytes g es) out) a out
+  no_room out l e = rw e (stored_none (tables_bytes g es) out (omega (arith, file_length)))
 
-  module _ {old x y : List ℕ} {a b : ℕ} (l : length_of_tables k count ≤ length old) (header : Put 0 (header_of 0x45 0x44 0x47 1) old x a) (counted : Put a (byte_of g.k) x y b) where
-    pub tables_fit : RowsFit kept count (tables_of (kept_in kept count) 0 g.k) b y
+  module _ {old x y : Writer} (start : old.at ≡ 0) (l : length_of_tables g.k (length es) ≤ length old.out.now) (header : Wrote (header_of 0x45 0x44 0x47 1) old x) (counted : Wrote (byte_of g.k) x y) where
+    pub tables_fit : RowsFit es (tables_of es 0 g.k) y
     unfolding tables_bytes
-    tables_fit =
-        let same = put_length (omega arith) header in
-        record {
-          long = held.long;
-          most = omega (arith, held.long, held.accepted.most_elements);
-          room = omega (arith, file_length, header.behind, counted.behind, put_length (omega (arith, header.behind)) counted);
-        }
+    tables_fit = record { most = held.accepted.most_elements; room = omega (arith, file_length, header.behind, header.long, counted.behind, counted.long) }
 
-    module _ {new : List ℕ} {n : ℕ} (tables : Put b (tables_of (kept_in kept count) 0 g.k) y new n) where
-      all_put : Put 0 (tables_bytes g (kept_in kept count)) old new n
+    module _ {new : Writer} (tables : Wrote (tables_of es 0 g.k) y new) where
+      all_written : Wrote (tables_bytes g es) old new
       unfolding tables_bytes
-      all_put = put_then (omega arith) (put_then (omega arith) header counted) tables
+      all_written = wrote_then (wrote_then header counted) tables
 
-      pub length_fits : n < 65536
-      length_fits = omega (arith, all_put.behind, file_length, held.long, held.accepted.most_elements, held.legal.most_types)
+      pub length_fits : new.at < 65536
+      length_fits = omega (arith, all_written.behind, file_length, held.accepted.most_elements, held.legal.most_types)
 
-      pub all_stored : {r : Answer} {m : ℕ} → m ≡ n → r ≡ accepted m → Leaves (stored (tables_bytes g (kept_in kept count)) old) r new
-      all_stored f h = rw (h, f) (stored_all (omega (arith, file_length)) all_put)
-
-pub ruleset laws = (no_room, tables_fit, length_fits, all_stored, rules)
+      pub all_stored : {r : Answer} → r ≡ accepted new.at → Leaves (stored (tables_bytes g es) old.out.now) r new.out.now
+      all_stored h = rw h (stored_all start (omega (arith, file_length)) all_written)

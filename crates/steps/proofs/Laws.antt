@@ -5,18 +5,15 @@ use mathlib.Core.List.{List, [], ◌∷◌, ◌++◌, append_assoc, append-nil}
 use native.Mathlib.Omega.{arith}
 use lib.Bits.{bit_or}
 use lib.ListN.{length, length-append}
-use borrow.Author.Rules.{rules}
 use Rattle.meaning.specs.declared.Operation.{Operation}
 use Rattle.meaning.specs.declared.Operation.TheVariants.{Table, Itself, Join, Union, Closure}
 use Rattle.meaning.specs.Operations.{last}
 use Rattle.meaning.specs.Translation.{Adds, step, then, then_both, descend}
-use Rattle.fields.specs.Write.{byte_of}
-use Rattle.rel.specs.declared.StepBytes.{StepBytes}
 use Rattle.rel.specs.Rel.{step_bytes, steps_bytes}
-use Rattle.rel.proofs.Encoded.{steps_length}
+use Rattle.rel.proofs.Encoded.{step_length, steps_length}
 use Rattle.writing.specs.Lent.{over}
 use Rattle.writing.specs.Inside.Put.{Put}
-use Rattle.writing.proofs.Puts.{over_more, put_then, put_length}
+use Rattle.writing.proofs.Puts.{over_more, put_length}
 use Rattle.steps.specs.declared.Place.{Place}
 use Rattle.steps.specs.declared.Operator.{Operator}
 use Rattle.steps.specs.Inside.Writes.{applied, onto, Holds, WritesSteps, Goes, StepsFit}
@@ -36,39 +33,22 @@ step_writes o n {old} {new} e = record {
         e
         ∙ ap (λ l. over (6 + 3 * n) (step_bytes o) l) h.there
         ∙ ap (λ i. over i (step_bytes o) (over 6 (steps_bytes os) base)) (omega (arith, h.count, steps_length os))
-        ∙ over_more 6 (steps_bytes os) (step_bytes o) base h.header
+        ∙ over_more 6 (steps_bytes os) (step_bytes o) base
         ∙ ap (λ l. over 6 l base) (sym (steps_more os o));
     count = omega (arith, h.count, length-append os (o ∷ []));
   };
 }
 
--- What add writes, a byte behind the other.
-pub add_goes : (o : Operation) (b : StepBytes) {w i j k : ℕ} {old x y new : List ℕ} {from : Place} → StepsFit 1 (length old) from.steps
-    → b.0 ∷ b.1 ∷ b.2 ∷ [] ≡ step_bytes o → w ≡ from.steps
-    → Put (6 + 3 * w) (byte_of b.0) old x i → Put i (byte_of b.1) x y j → Put j (byte_of b.2) y new k
+-- What add writes.
+pub add_goes : (o : Operation) {w next : ℕ} {old new : List ℕ} {from : Place} → StepsFit 1 (length old) from.steps → w ≡ from.steps → Put (6 + 3 * w) (step_bytes o) old new next
     → Goes (step o) 1 from.kinds from.at old new from.steps (record { kinds = from.kinds; at = from.at; steps = from.steps + 1 })
-add_goes o b {w} {old = old} {new = new} {from} room e q p r s =
-    let at : 6 + 3 * w ≤ length old = omega (arith, room.fits) in
-    let put = put_then at (put_then at p r) s in
-    record {
-      writes = step_writes o from.steps (put.there ∙ ap (λ l. over (6 + 3 * w) l old) e ∙ ap (λ k. over (6 + 3 * k) (step_bytes o) old) q);
-      steps = refl;
-      kinds = refl;
-      at = refl;
-      same = put_length (omega (arith, room.fits)) put;
-    }
-
--- The operands are the numbers that a writer is called with.
-pub applied_as : (operator o : Operator) (a b : ℕ) {r : Operation} → operator ≡ o → r ≡ applied o a b → r ≡ applied operator a b
-applied_as operator o a b e h = rw e h
-
-module _ {more C next n : ℕ} {old new : List ℕ} {to : Place} where
-  pub table_goes : {m K : ℕ} → m ≡ K → Goes (step (Table m)) more C next old new n to → Goes (step (Table K)) more C next old new n to
-  table_goes e p = rw e at p
-
-  pub combine_goes : (operator : Operator) {o : Operation} {a b l r : ℕ} → o ≡ applied operator a b → a ≡ l → b ≡ r
-      → Goes (step o) more C next old new n to → Goes (step (applied operator l r)) more C next old new n to
-  combine_goes operator e f g p = rw (e, f, g) at p
+add_goes o {w} {old = old} {from = from} room q put = record {
+  writes = step_writes o from.steps (put.there ∙ ap (λ k. over (6 + 3 * k) (step_bytes o) old) q);
+  steps = refl;
+  kinds = refl;
+  at = refl;
+  same = put_length (omega (arith, room.fits, step_length o)) put;
+}
 
 -- no step: the kinds may be others
 pub stays : (from : Place) (K : ℕ) (old : List ℕ) → Goes (λ os. os) 0 K from.at old old from.steps (record { kinds = K; at = from.at; steps = from.steps })
@@ -129,5 +109,3 @@ below_goes types p q r =
 -- room for some of the steps that there is room for
 pub room_less : {m n room o from to : ℕ} → StepsFit m room from → to + n ≤ from + m → o ≡ room → StepsFit n o to
 room_less r l e = record { few = omega (arith, r.few); fits = omega (arith, r.fits) }
-
-pub ruleset writers = (applied_as, add_goes, table_goes, combine_goes, itself_goes, closed_goes, below_goes, rules)

@@ -19,6 +19,7 @@ pub struct Place {
 }
 
 // An operation that is still without its operands, two steps. HAS and LFP are of the second; DIFF takes the first out of it.
+// It is data, since the descent's table of codes hands it on, and a function that does so with a function pointer is refused.
 #[derive(Clone, Copy)]
 pub enum Operator {
     Join,
@@ -29,91 +30,92 @@ pub enum Operator {
     Closure,
 }
 
-fn applied(operator: Operator, a: u8, b: u8) -> Operation
-    ensures { result ≡ applied operator a b }
-{
-    match operator {
-        Operator::Join => Operation::Join(a, b),
-        Operator::Union => Operation::Union(a, b),
-        Operator::Both => Operation::Both(a, b),
-        Operator::Diff => Operation::Diff(b, a),
-        Operator::Has => Operation::Has(b),
-        Operator::Closure => Operation::Closure(b),
+impl Operator {
+    fn applied(self, a: u8, b: u8) -> Operation
+        ensures { result ≡ applied self a b }
+    {
+        match self {
+            Operator::Join => Operation::Join(a, b),
+            Operator::Union => Operation::Union(a, b),
+            Operator::Both => Operation::Both(a, b),
+            Operator::Diff => Operation::Diff(b, a),
+            Operator::Has => Operation::Has(b),
+            Operator::Closure => Operation::Closure(b),
+        }
     }
 }
 
-// The number of the last step.
-fn last(place: Place) -> u8
-    requires { 1 ≤ place.steps }
-    ensures { result ≡ place.steps - 1 }
-{
-    place.steps - 1
-}
-
-// Writes an operation as the next step.
-pub fn add(from: Place, operation: Operation, out: &mut [u8]) -> Place
-    requires { StepsFit 1 (length out.old) from.steps }
-    ensures { Goes (step operation) 1 from.kinds from.at out.old out.new from.steps result }
-{
-    let bytes = rel::step_bytes(operation);
-    let x = writing::byte(out, 6 + 3 * numbers::u8_to_usize(from.steps), bytes.0);
-    let y = writing::byte(out, x, bytes.1);
-    writing::byte(out, y, bytes.2);
-    let steps = from.steps + 1;
-    Place {
-        kinds: from.kinds,
-        at: from.at,
-        steps,
+impl Place {
+    // The number of the last step.
+    fn last(self) -> u8
+        requires { 1 ≤ self.steps }
+        ensures { result ≡ self.steps - 1 }
+    {
+        self.steps - 1
     }
-}
 
-// TABLE, with a mask of types.
-pub fn table(types: u32, from: Place, out: &mut [u8]) -> Place
-    requires { Masked 1 (length out.old) types from.steps }
-    ensures { Goes (step (Table types)) 1 from.kinds from.at out.old out.new from.steps result }
-{
-    add(from, Operation::Table(numbers::u32_to_u16(types)), out)
-}
+    // Writes an operation as the next step.
+    pub fn add(self, operation: Operation, out: &mut [u8]) -> Place
+        requires { StepsFit 1 (length out.old) self.steps }
+        ensures { Goes (step operation) 1 self.kinds self.at out.old out.new self.steps result }
+    {
+        let at = 6 + 3 * usize::from(self.steps);
+        out[at..at + 3].copy_from_slice(&rel::step_bytes(operation));
+        Place {
+            steps: self.steps + 1,
+            ..self
+        }
+    }
 
-// An operation on the last steps at two places.
-pub fn combine(operator: Operator, left: Place, right: Place, out: &mut [u8]) -> Place
-    requires { Behind 1 (length out.old) left right }
-    ensures { Goes (step (applied operator (left.steps - 1) (right.steps - 1))) 1 right.kinds right.at out.old out.new right.steps result }
-{
-    let operation = applied(operator, last(left), last(right));
-    add(right, operation, out)
-}
+    // TABLE, with a mask of types.
+    pub fn table(self, types: u32, out: &mut [u8]) -> Place
+        requires { Masked 1 (length out.old) types self.steps }
+        ensures { Goes (step (Table types)) 1 self.kinds self.at out.old out.new self.steps result }
+    {
+        self.add(Operation::Table(types as u16), out)
+    }
 
-// SELF, and an operation on what was last and that.
-pub fn with_itself(operator: Operator, left: Place, out: &mut [u8]) -> Place
-    requires { Behind 2 (length out.old) left left }
-    ensures { Goes (onto (applied operator) (step Itself)) 2 left.kinds left.at out.old out.new left.steps result }
-{
-    let itself = add(left, Operation::Itself, out);
-    combine(operator, left, itself, out)
-}
+    // An operation on the last step here and that at another place, behind which it stands.
+    pub fn combine(self, operator: Operator, right: Place, out: &mut [u8]) -> Place
+        requires { Behind 1 (length out.old) self right }
+        ensures { Goes (step (applied operator (self.steps - 1) (right.steps - 1))) 1 right.kinds right.at out.old out.new right.steps result }
+    {
+        let operation = operator.applied(self.last(), right.last());
+        right.add(operation, out)
+    }
 
-// TABLE, with a mask of types, and its LFP.
-fn closed(types: u32, from: Place, out: &mut [u8]) -> Place
-    requires { Masked 2 (length out.old) types from.steps }
-    ensures { Goes (then Closure (step (Table types))) 2 from.kinds from.at out.old out.new from.steps result }
-{
-    let tabled = table(types, from, out);
-    combine(Operator::Closure, tabled, tabled, out)
-}
+    // SELF, and an operation on what was last and that.
+    #[tactic(auto, using(crate::proofs::Laws::itself_goes))]
+    pub fn with_itself(self, operator: Operator, out: &mut [u8]) -> Place
+        requires { Behind 2 (length out.old) self self }
+        ensures { Goes (onto (applied operator) (step Itself)) 2 self.kinds self.at out.old out.new self.steps result }
+    {
+        let itself = self.add(Operation::Itself, out);
+        self.combine(operator, itself, out)
+    }
 
-// Behind the left part of //, from whose kinds these types are reachable: the children of these types, closed, or the node
-// itself, and the left part joined with that. The kinds are then the left part's and those types.
-pub fn below(types: u32, left: Place, out: &mut [u8]) -> Place
-    requires { Descending types (length out.old) left }
-    ensures { Goes (onto Join (descend types)) 5 (bit_or left.kinds types) left.at out.old out.new left.steps result }
-{
-    let closed = closed(types, left, out);
-    let either = with_itself(Operator::Union, closed, out);
-    let joined = combine(Operator::Join, left, either, out);
-    Place {
-        kinds: left.kinds | types,
-        at: joined.at,
-        steps: joined.steps,
+    // TABLE, with a mask of types, and its LFP.
+    #[tactic(auto, using(crate::proofs::Laws::closed_goes))]
+    fn closed(self, types: u32, out: &mut [u8]) -> Place
+        requires { Masked 2 (length out.old) types self.steps }
+        ensures { Goes (then Closure (step (Table types))) 2 self.kinds self.at out.old out.new self.steps result }
+    {
+        let tabled = self.table(types, out);
+        tabled.combine(Operator::Closure, tabled, out)
+    }
+
+    // Behind the left part of //, from whose kinds these types are reachable: the children of these types, closed, or the
+    // node itself, and the left part joined with that. The kinds are then the left part's and those types.
+    pub fn below(self, types: u32, out: &mut [u8]) -> Place
+        requires { Descending types (length out.old) self }
+        ensures { Goes (onto Join (descend types)) 5 (bit_or self.kinds types) self.at out.old out.new self.steps result }
+    {
+        let closed = self.closed(types, out);
+        let either = closed.with_itself(Operator::Union, out);
+        let joined = self.combine(Operator::Join, either, out);
+        Place {
+            kinds: self.kinds | types,
+            ..joined
+        }
     }
 }

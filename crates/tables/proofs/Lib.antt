@@ -1,6 +1,5 @@
-pub mod Rows
 pub mod Places
-pub mod Elements
 pub mod Stretch
 pub mod Tables
+pub mod Elements
 pub mod Reader

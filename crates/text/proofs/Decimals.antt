@@ -46,3 +46,7 @@ few_digits (suc k) n l =
       length-append (decimal (n / 10)) (byte_of (48 + n % 10)),
       few_digits k (n / 10) (omega (arith, pow-suc 10 (suc k))),
     ))
+
+-- a number of 16 bits
+pub five_digits : (n : ℕ) → n < 65536 → length (decimal n) ≤ 5
+five_digits n l = few_digits 4 n (omega arith)

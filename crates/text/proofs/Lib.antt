@@ -3,5 +3,4 @@ pub mod Decimals
 pub mod Numbers
 pub mod LineLaws
 pub mod Turns
-pub mod Refusals
 pub mod Example

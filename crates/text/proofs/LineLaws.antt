@@ -1,11 +1,11 @@
 -- The lines of a listing: what one is made of, how they follow one another, and how long they are.
-use Prim.Native.Nat.{ℕ, suc, ◌+◌, ◌*◌, ◌-◌, ◌≤◌, ◌<◌}
-use mathlib.Core.List.{List, [], ◌∷◌, ◌++◌, append_assoc, append-nil}
-use mathlib.Core.Path.{◌≡◌, refl, sym, ap, ◌∙◌}
+use Prim.Native.Nat.{ℕ, suc, ◌+◌, ◌*◌, ◌≤◌, ◌<◌}
+use mathlib.Core.List.{List, [], ◌∷◌, ◌++◌, append_assoc}
+use mathlib.Core.Path.{◌≡◌, ap}
 use native.Mathlib.Numerals.{add-one}
 use native.Mathlib.Omega.{arith}
-use lib.ListN.{length, get_or, take, drop, length-append}
-use lib.Seq.{take-suc, take-add, length-take-le}
+use lib.ListN.{length, get_or, drop, length-append, drop_of_length-le}
+use lib.Seq.{drop-cons}
 use Rattle.meaning.specs.declared.Element.{Element}
 use Rattle.meaning.specs.Limits.{words}
 use Rattle.meaning.specs.Documents.{View, view, node}
@@ -39,50 +39,29 @@ line_fields : (d : View) (v : ℕ) → line d v ≡ three_fields v (d.kind v) (d
 unfolding line
 line_fields d v = simp append_assoc
 
-pub line_is : (es : List Element) (v : ℕ) {x : Element} → x ≡ node es v → line (view es) v ≡ three_fields v x.kind x.text
+pub line_is : (es : List Element) (v : ℕ) {x : Element} {n k : ℕ} → x ≡ node es v → n ≡ v → k ≡ x.kind → line (view es) v ≡ three_fields n k x.text
 unfolding view
-line_is es v e = rw (line_fields (view es) v, e)
+line_is es v e f h = rw (line_fields (view es) v, h, e, f)
 
 pub first_length : (n : ℕ) → length (first_line n) ≡ 10 + length (decimal n)
 unfolding first_line
 first_length n = omega (arith, length-append (selected_word ++ space ++ decimal n) end_of_line, length-append (selected_word ++ space) (decimal n))
 
--- Lines one after another.
-lines_append : (d : View) (xs ys : List ℕ) → lines d (xs ++ ys) ≡ lines d xs ++ lines d ys
+pub listing_length : (d : View) (nodes : List ℕ) → length (listing d nodes) ≡ 10 + length (decimal (length nodes)) + length (lines d nodes)
+unfolding listing
+listing_length d nodes = omega (arith, length-append (first_line (length nodes)) (lines d nodes), first_length (length nodes))
+
+-- The lines of the nodes behind the first i.
+abbrev pub lines_after : View → List ℕ → ℕ → List ℕ
+lines_after d nodes i = lines d (drop i nodes)
+
+pub lines_next : (d : View) (nodes : List ℕ) (i : ℕ) → i < length nodes → lines_after d nodes i ≡ line d (get_or nodes i 0) ++ lines_after d nodes (i + 1)
 unfolding lines
-lines_append d [] ys = refl
-lines_append d (x ∷ xs) ys = ap (λ l. line d x ++ l) (lines_append d xs ys) ∙ sym (append_assoc (line d x) (lines d xs) (lines d ys))
+lines_next d nodes i l = rw (drop-cons nodes i 0 l, add-one i)
 
-module _ (d : View) (nodes : List ℕ) where
-  pub one_more : (i : ℕ) → i < length nodes → lines d (take (i + 1) nodes) ≡ lines d (take i nodes) ++ line d (get_or nodes i 0)
-  unfolding lines
-  one_more i l =
-      let v = get_or nodes i 0 in
-      rw (add-one i, take-suc nodes i 0 l, lines_append d (take i nodes) (v ∷ []), append-nil (line d v))
-
-  -- the lines of more nodes are no fewer bytes
-  lines_grow : (i k : ℕ) → length (lines d (take i nodes)) ≤ length (lines d (take (i + k) nodes))
-  lines_grow i k =
-      let head = lines d (take i nodes) in
-      let tail = lines d (take k (drop i nodes)) in
-      let both : lines d (take (i + k) nodes) ≡ head ++ tail = ap (lines d) (take-add i k nodes) ∙ lines_append d (take i nodes) (take k (drop i nodes)) in
-      omega (arith, ap length both, length-append head tail)
-
-  module _ (count : ℕ) (there : count ≤ length nodes) where
-    -- where all lines have room, the next one has
-    pub next_fits : (i : ℕ) → i < count → length (lines d (take i nodes)) + length (line d (get_or nodes i 0)) ≤ length (lines d (take count nodes))
-    next_fits i l =
-        let rest : i + 1 + (count - (i + 1)) ≡ count = omega arith in
-        omega (
-          arith,
-          rw rest at (lines_grow (i + 1) (count - (i + 1))),
-          ap length (one_more i (omega arith)),
-          length-append (lines d (take i nodes)) (line d (get_or nodes i 0)),
-        )
-
-    pub listing_is : listing d (take count nodes) ≡ first_line count ++ lines d (take count nodes)
-    unfolding listing
-    listing_is = rw (length-take-le count nodes there)
+pub lines_last : (d : View) (nodes : List ℕ) (i : ℕ) → length nodes ≤ i → lines_after d nodes i ≡ []
+unfolding lines
+lines_last d nodes i l = rw (drop_of_length-le nodes {i = i} l)
 
 -- How long a listing is, where numbers of nodes have three digits, kinds two, and text numbers 16 bits.
 module _ (d : View) (few : d.size < 1000) (kinds : (v : ℕ) → d.kind v < 100) (texts : (v : ℕ) → d.text v < words) where
@@ -104,6 +83,4 @@ module _ (d : View) (few : d.size < 1000) (kinds : (v : ℕ) → d.kind v < 100)
 
   -- its room is enough
   pub listing_most : (nodes : List ℕ) → ((i : ℕ) → i < length nodes → get_or nodes i 0 < d.size) → length nodes ≤ d.size → length (listing d nodes) ≤ listing_room d.size
-  unfolding listing
-  listing_most nodes there l =
-      omega (arith, length-append (first_line (length nodes)) (lines d nodes), first_length (length nodes), few_digits 2 (length nodes) (omega arith), lines_most nodes there)
+  listing_most nodes there l = omega (arith, listing_length d nodes, few_digits 2 (length nodes) (omega arith), lines_most nodes there)

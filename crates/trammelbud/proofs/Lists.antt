@@ -17,8 +17,6 @@ use Rattle.meaning.specs.Limits.{small, words, room_bytes, types}
 use Rattle.meaning.specs.Documents.{view, node, is_element, document_node}
 use Rattle.meaning.specs.Operations.{answer}
 use Rattle.meaning.specs.Inside.Records.{operations_in}
-use Rattle.elements.specs.Inside.Packing.{kept_in, shown}
-use Rattle.elements.proofs.Packing.{held_long}
 use Rattle.writing.specs.Lent.{accepted, turned_away, over}
 use Rattle.writing.specs.Inside.Put.{Put}
 use Rattle.writing.proofs.Puts.{over_front, over_length}
@@ -41,29 +39,29 @@ kinds_small es kinds (suc i) = go (leb (suc i) (length es)) refl
     go true e = omega (arith, kinds (suc i) (and_in e (lt-ltb 0 (suc i) (omega arith))))
     go false e = rw (get_or-eq_default es document_node {n = i} (omega (arith, leb-false (suc i) (length es) e))) (omega arith)
 
-module _ {kept : List ℕ} {count : ℕ} {program : Program} (r : FitToRun kept count program × ((v : ℕ) → (shown kept count).text v < words)) where
+module _ {es : List Element} {program : Program} (r : FitToRun es program × ((v : ℕ) → (view es).text v < words)) where
   abbrev nodes : List ℕ
-  nodes = answer (shown kept count) (operations_in program)
+  nodes = answer (view es) (operations_in program)
 
-  size_is : (shown kept count).size ≡ suc count
+  size_is : (view es).size ≡ suc (length es)
   unfolding view
-  size_is = ap suc (held_long kept count r.0.nodes.room)
+  size_is = refl
 
   steps : program.count ≡ length (operations_in program)
   steps = sym r.0.whole
 
   -- the buffer for the text is too short
-  pub list_short : (out work : List ℕ) {a : Answer} → length out < 13 * (count + 2) → a ≡ turned_away (record { reason = Room })
-      → Gives (lists (shown kept count) nodes (operations_in program) out work) a out work
-  list_short out work l e = let short = lt-leb (listing_room (shown kept count).size) (length out) (omega (arith, size_is)) in rw (short, e)
+  pub list_short : (out work : List ℕ) {a : Answer} → length out < 13 * (length es + 2) → a ≡ turned_away (record { reason = Room })
+      → Gives (lists (view es) nodes (operations_in program) out work) a out work
+  list_short out work l e = let short = lt-leb (listing_room (view es).size) (length out) (omega (arith, size_is)) in rw (short, e)
 
   -- The program was run, and its nodes stand in a buffer of their own.
-  module _ (out work : List ℕ) (room : 13 * (count + 2) ≤ length out) {ran : Answer} {found work' : List ℕ} (g : Gives (performed (shown kept count) (operations_in program) (replicate 128 0) work) ran found work') where
-    fits : leb (shown kept count).size (length (replicate {A = ℕ} 128 0)) ≡ true
-    fits = le-leb (shown kept count).size (length (replicate {A = ℕ} 128 0)) (omega (arith, size_is, r.0.nodes.few, length-replicate {A = ℕ} 128 0))
+  module _ (out work : List ℕ) (room : 13 * (length es + 2) ≤ length out) {ran : Answer} {found work' : List ℕ} (g : Gives (performed (view es) (operations_in program) (replicate 128 0) work) ran found work') where
+    fits : leb (view es).size (length (replicate {A = ℕ} 128 0)) ≡ true
+    fits = le-leb (view es).size (length (replicate {A = ℕ} 128 0)) (omega (arith, size_is, r.0.nodes.few, length-replicate {A = ℕ} 128 0))
 
-    text_fits : leb (listing_room (shown kept count).size) (length out) ≡ true
-    text_fits = le-leb (listing_room (shown kept count).size) (length out) (omega (arith, size_is))
+    text_fits : leb (listing_room (view es).size) (length out) ≡ true
+    text_fits = le-leb (listing_room (view es).size) (length out) (omega (arith, size_is))
 
     by_work : {P : Type 0} → (room_bytes small.row * length (operations_in program) ≤ length work → P) → (length work < room_bytes small.row * length (operations_in program) → P) → P
     by_work {P} given lacking = go (leb (room_bytes small.row * length (operations_in program)) (length work)) refl
@@ -79,10 +77,10 @@ module _ {kept : List ℕ} {count : ℕ} {program : Program} (r : FitToRun kept 
 
     whole : room_bytes small.row * length (operations_in program) ≤ length work
         → ◌≡◌ {A = Ran} (record { answer = ran; out = found; work = work' })
-        (record { answer = accepted (length nodes); out = over 0 nodes (replicate 128 0); work = overwritten (work_byte small.row (shown kept count) (operations_in program)) (room_bytes small.row * length (operations_in program)) work })
-    whole l = sym g ∙ performed_given (shown kept count) (operations_in program) (record { for_nodes = leb-true _ _ fits; for_steps = l })
+        (record { answer = accepted (length nodes); out = over 0 nodes (replicate 128 0); work = overwritten (work_byte small.row (view es) (operations_in program)) (room_bytes small.row * length (operations_in program)) work })
+    whole l = sym g ∙ performed_given (view es) (operations_in program) (record { for_nodes = leb-true _ _ fits; for_steps = l })
 
-    pub list_refused : (ran.number ≡ 0 → ⊥) → Gives (lists (shown kept count) nodes (operations_in program) out work) ran out work'
+    pub list_refused : (ran.number ≡ 0 → ⊥) → Gives (lists (view es) nodes (operations_in program) out work) ran out work'
     list_refused not-zero =
         by_work (λ l. absurd (not-zero (ap (λ x. x.answer.number) (whole l))))
         λ l. let no_room = lt-leb (room_bytes small.row * length (operations_in program)) (length work) l in
@@ -98,44 +96,39 @@ module _ {kept : List ℕ} {count : ℕ} {program : Program} (r : FitToRun kept 
       there : found ≡ over 0 nodes (replicate 128 0)
       there = ap (λ x. x.out) (whole enough)
 
-      few : length nodes ≤ suc count
-      few = omega (arith, few_nodes (shown kept count) (operations_in program), size_is)
+      few : length nodes ≤ suc (length es)
+      few = omega (arith, few_nodes (view es) (operations_in program), size_is)
 
-      module _ {n : ℕ} (e : n ≡ ran.count) where
-        taken : take n found ≡ nodes
-        taken = rw (e, counted, there) (over_front nodes (replicate 128 0))
+      taken : take ran.count found ≡ nodes
+      taken = rw (counted, there) (over_front nodes (replicate 128 0))
 
-        kind_small : (v : ℕ) → (shown kept count).kind v < 100
-        kind_small v = kinds_small (kept_in kept count) r.0.nodes.kinds v
+      kind_small : (v : ℕ) → (view es).kind v < 100
+      kind_small v = kinds_small es r.0.nodes.kinds v
 
-        pub list_listable : Listable kept count found n
-        list_listable =
-            let long = over_length 0 nodes (replicate 128 0) (omega (arith, few, r.0.nodes.few, length-replicate {A = ℕ} 128 0)) in
-            record {
-              held = r.0.nodes.room;
-              there = omega (arith, ap length there, long, e, counted, few, r.0.nodes.few, length-replicate {A = ℕ} 128 0);
-              most = omega (arith, e, counted, few, r.0.nodes.few);
-            }
+      pub list_inside : ran.count ≤ length found
+      list_inside =
+          let long = over_length 0 nodes (replicate 128 0) (omega (arith, few, r.0.nodes.few, length-replicate {A = ℕ} 128 0)) in
+          omega (arith, ap length there, long, counted, few, r.0.nodes.few, length-replicate {A = ℕ} 128 0)
 
-        text_most : length (listing (shown kept count) nodes) ≤ 13 * (count + 2)
-        text_most =
-            let most = listing_most (shown kept count) (omega (arith, size_is, r.0.nodes.few)) kind_small r.1 nodes (nodes_below (shown kept count) (operations_in program)) (few_nodes (shown kept count) (operations_in program)) in
-            omega (arith, most, size_is)
+      text_most : length (listing (view es) nodes) ≤ 13 * (length es + 2)
+      text_most =
+          let most = listing_most (view es) (omega (arith, size_is, r.0.nodes.few)) kind_small r.1 nodes (nodes_below (view es) (operations_in program)) (few_nodes (view es) (operations_in program)) in
+          omega (arith, most, size_is)
 
-        pub list_room : length (listing (shown kept count) (take n found)) ≤ length out
-        list_room = rw taken (omega (arith, text_most))
+      pub list_listable : Listable (view es) (take ran.count found) out
+      list_listable = record { most = rw taken (omega (arith, few, r.0.nodes.few)); room = rw taken (omega (arith, text_most)) }
 
-        module _ {next : ℕ} {new : List ℕ} (put : Put 0 (listing (shown kept count) (take n found)) out new next) where
-          text_is_lem : Put 0 (listing (shown kept count) nodes) out new next
-          text_is_lem = rw taken at put
+      module _ {next : ℕ} {new : List ℕ} (put : Put 0 (listing (view es) (take ran.count found)) out new next) where
+        text_is_lem : Put 0 (listing (view es) nodes) out new next
+        text_is_lem = rw taken at put
 
-          pub list_small : next < words
-          list_small = omega (arith, text_is_lem.behind, text_most, r.0.nodes.few)
+        pub list_small : next < words
+        list_small = omega (arith, text_is_lem.behind, text_most, r.0.nodes.few)
 
-          pub list_all : {m : ℕ} {a : Answer} → m ≡ next → a ≡ accepted m → Gives (lists (shown kept count) nodes (operations_in program) out work) a new work'
-          list_all f h =
-              let steps-fit = le-leb (room_bytes small.row * length (operations_in program)) (length work) enough in
-              let length-is : next ≡ length (listing (shown kept count) nodes) = text_is_lem.behind ∙ omega arith in
-              rw (text_fits, steps-fit, h, f, length-is, text_is_lem.there, ap (λ x. x.work) (whole enough))
+        pub list_all : Gives (lists (view es) nodes (operations_in program) out work) (accepted next) new work'
+        list_all =
+            let steps-fit = le-leb (room_bytes small.row * length (operations_in program)) (length work) enough in
+            let length-is : next ≡ length (listing (view es) nodes) = text_is_lem.behind ∙ omega arith in
+            rw (text_fits, steps-fit, length-is, text_is_lem.there, ap (λ x. x.work) (whole enough))
 
-pub ruleset laws = (list_short, list_refused, list_listable, list_room, list_small, list_all, rules)
+pub ruleset laws = (list_short, list_refused, list_inside, list_listable, list_small, list_all, rules)

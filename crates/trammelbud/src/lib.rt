@@ -10,73 +10,65 @@ ghost use Rattle.announce.specs.Check.{check_of};
 ghost use Rattle.rooms.specs.Run.{Gives};
 ghost use Rattle.runner.specs.Run.{run_of};
 ghost use Rattle.trammelbud.specs.Calls.{read_graph, read_document, read_tables, read_query, read_program, select_of, list_of};
-ghost use Rattle.trammelbud.specs.Inside.Parts.{answer_for, Countable};
 
 mod list;
 mod plan;
 
 use announce::Checked;
-use elements::BLANK;
-use meaning::{Answer, Outcome, SMALL};
-use numbers::{u8_to_usize, usize_to_u32};
+use elements::DOCUMENT_NODE;
+use meaning::{Answer, SMALL};
 use writing::{accepted, turned_away};
-
-// What a reader alone answers: what its file counts.
-fn counted(outcome: Outcome, count: usize) -> Answer
-    requires { Countable outcome count }
-    ensures { result ≡ answer_for outcome count }
-{
-    match outcome {
-        Outcome::Accepted => accepted(usize_to_u32(count)),
-        Outcome::Refused(refusal) => turned_away(refusal),
-    }
-}
 
 // A graph: how many types it has.
 pub fn tb_read_graph(gra: &[u8]) -> Answer
     ensures { result ≡ read_graph gra.now }
 {
-    let read = graph::read(gra);
-    let outcome = read.outcome;
-    counted(outcome, u8_to_usize(read.graph.k))
+    match graph::read(gra) {
+        Ok(graph) => accepted(u32::from(graph.k)),
+        Err(refusal) => turned_away(refusal),
+    }
 }
 
 // A document: how many elements it has.
 pub fn tb_read_document(gra: &[u8], tre: &[u8]) -> Answer
     ensures { result ≡ read_document gra.now tre.now }
 {
-    let mut kept = [BLANK; SMALL.elements];
-    let opened = files::document(gra, tre, &mut kept);
-    let outcome = opened.outcome;
-    counted(outcome, opened.count)
+    let mut kept = [DOCUMENT_NODE; SMALL.elements];
+    match files::document(gra, tre, &mut kept) {
+        Ok(opened) => accepted(opened.count as u32),
+        Err(refusal) => turned_away(refusal),
+    }
 }
 
 // Tables: how many elements they hold.
 pub fn tb_read_tables(gra: &[u8], edg: &[u8]) -> Answer
     ensures { result ≡ read_tables gra.now edg.now }
 {
-    let mut kept = [BLANK; SMALL.elements];
-    let opened = files::tables(gra, edg, &mut kept);
-    let outcome = opened.outcome;
-    counted(outcome, opened.count)
+    let mut kept = [DOCUMENT_NODE; SMALL.elements];
+    match files::tables(gra, edg, &mut kept) {
+        Ok(opened) => accepted(opened.count as u32),
+        Err(refusal) => turned_away(refusal),
+    }
 }
 
 // A query: how many nodes it has.
 pub fn tb_read_query(gra: &[u8], qry: &[u8]) -> Answer
     ensures { result ≡ read_query gra.now qry.now }
 {
-    let opened = files::query(gra, qry);
-    let outcome = opened.outcome;
-    counted(outcome, u8_to_usize(opened.nodes))
+    match files::query(gra, qry) {
+        Ok(opened) => accepted(u32::from(opened.nodes)),
+        Err(refusal) => turned_away(refusal),
+    }
 }
 
 // A program: how many steps it has.
 pub fn tb_read_program(gra: &[u8], rel: &[u8]) -> Answer
     ensures { result ≡ read_program gra.now rel.now }
 {
-    let opened = files::program(gra, rel);
-    let outcome = opened.outcome;
-    counted(outcome, opened.program.count)
+    match files::program(gra, rel) {
+        Ok(opened) => accepted(opened.program.count as u32),
+        Err(refusal) => turned_away(refusal),
+    }
 }
 
 // The tables of a document. `out` needs 6 + k + 4n bytes; the length written is the answer.
@@ -119,14 +111,11 @@ pub fn tb_run(gra: &[u8], edg: &[u8], rel: &[u8], out: &mut [u8], work: &mut [u8
 pub fn tb_select(gra: &[u8], edg: &[u8], qry: &[u8], out: &mut [u8], work: &mut [u8]) -> Answer
     ensures { Gives (select_of gra.now edg.now qry.now out.old work.old) result out.new work.new }
 {
-    let mut kept = [BLANK; SMALL.elements];
-    let plan = plan::make(gra, edg, qry, &mut kept);
-    let outcome = plan.outcome;
-    if let Outcome::Refused(refusal) = outcome {
-        return turned_away(refusal);
+    let mut kept = [DOCUMENT_NODE; SMALL.elements];
+    match plan::make(gra, edg, qry, &mut kept) {
+        Ok(plan) => rooms::run_over(&kept[..plan.count], &plan.program, out, work),
+        Err(refusal) => turned_away(refusal),
     }
-    let program = plan.program;
-    rooms::run_over(&kept, plan.count, program, out, work)
 }
 
 // The listing of the nodes that a query selects. `text` needs 13(n+2) bytes, which the longest one takes, `work` 2,048 for
@@ -134,12 +123,9 @@ pub fn tb_select(gra: &[u8], edg: &[u8], qry: &[u8], out: &mut [u8], work: &mut 
 pub fn tb_list(gra: &[u8], edg: &[u8], qry: &[u8], text: &mut [u8], work: &mut [u8]) -> Answer
     ensures { Gives (list_of gra.now edg.now qry.now text.old work.old) result text.new work.new }
 {
-    let mut kept = [BLANK; SMALL.elements];
-    let plan = plan::make(gra, edg, qry, &mut kept);
-    let outcome = plan.outcome;
-    if let Outcome::Refused(refusal) = outcome {
-        return turned_away(refusal);
+    let mut kept = [DOCUMENT_NODE; SMALL.elements];
+    match plan::make(gra, edg, qry, &mut kept) {
+        Ok(plan) => list::list(&kept[..plan.count], &plan.program, text, work),
+        Err(refusal) => turned_away(refusal),
     }
-    let program = plan.program;
-    list::list(&kept, plan.count, program, text, work)
 }

@@ -3,13 +3,12 @@ ghost use Rattle.std.specs.Prelude.{ℕ, ◌<◌};
 ghost use Rattle.meaning.specs.Limits.{words};
 ghost use Rattle.meaning.specs.Operations.{answer};
 ghost use Rattle.meaning.specs.Inside.Records.{operations_in};
-ghost use Rattle.elements.specs.Inside.Packing.{shown};
+ghost use Rattle.meaning.specs.Documents.{view};
 ghost use Rattle.rooms.specs.Inside.FitToRun.{FitToRun};
 ghost use Rattle.rooms.specs.Run.{Gives};
 ghost use Rattle.trammelbud.specs.Calls.{lists};
 
-use meaning::{Answer, Program, Reason, SMALL};
-use numbers::{u32_to_usize, usize_to_u32};
+use meaning::{Answer, Element, Program, Reason, SMALL};
 
 // Nodes of a document.
 const NODES: usize = SMALL.elements + 1;
@@ -17,23 +16,22 @@ const NODES: usize = SMALL.elements + 1;
 // The nodes are listed into a buffer of its own first: the text is written when they are known, and the room for the longest
 // one is judged before anything is run.
 pub(crate) fn list(
-    kept: &[u32],
-    count: usize,
-    program: Program,
+    elements: &[Element],
+    program: &Program,
     out: &mut [u8],
     work: &mut [u8],
 ) -> Answer
-    requires { FitToRun kept.now count program × ((v : ℕ) → (shown kept.now count).text v < words) }
-    ensures { Gives (lists (shown kept.now count) (answer (shown kept.now count) (operations_in program)) (operations_in program) out.old work.old) result out.new work.new }
+    requires { FitToRun elements.now program.now × ((v : ℕ) → (view elements.now).text v < words) }
+    ensures { Gives (lists (view elements.now) (answer (view elements.now) (operations_in program.now)) (operations_in program.now) out.old work.old) result out.new work.new }
 {
-    if out.len() < 13 * (count + 2) {
+    if out.len() < 13 * (elements.len() + 2) {
         return writing::refused(Reason::Room);
     }
     let mut nodes = [0u8; NODES];
-    let ran = rooms::run_over(kept, count, program, &mut nodes, work);
+    let ran = rooms::run_over(elements, program, &mut nodes, work);
     if ran.number != 0 {
         return ran;
     }
-    let length = text::write(kept, count, &nodes, u32_to_usize(ran.count), out);
-    writing::accepted(usize_to_u32(length))
+    let length = text::write(elements, &nodes[..ran.count as usize], out);
+    writing::accepted(length as u32)
 }

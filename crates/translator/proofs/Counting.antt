@@ -5,11 +5,10 @@ use mathlib.Core.List.{List, [], ◌∷◌, ◌++◌, append_assoc}
 use native.Mathlib.Omega.{arith}
 use lib.ListN.{length, get_or, drop, drop_of_length-le}
 use lib.Seq.{drop-nil, drop-cons, drop-drop}
-use borrow.Author.Rules.{rules}
 use Rattle.meaning.specs.Limits.{step_limit}
 use Rattle.meaning.specs.Queries.{XPath, Qualifier, self, child, any_child, slash, slashes, union, filter, reached, text_is, is_not, both, either, path_count, qualifier_count}
 use Rattle.query.specs.Qry.{path_bytes, qualifier_bytes}
-use Rattle.translator.specs.Inside.Count.{fields_of, own_steps, steps_in, StepsCounted}
+use Rattle.translator.specs.Inside.Count.{fields_of, own_steps, steps_in, CountedSteps}
 
 skipped : (n : ℕ) (s : List ℕ) → steps_in n s ≡ steps_in 0 (drop n s)
 unfolding steps_in
@@ -21,32 +20,35 @@ skipped (suc n) (c ∷ s) = skipped n s
 pub record Upto (s : List ℕ) (at steps : ℕ) : Type 0 where
   pub sum : steps + steps_in 0 (drop at s) ≡ steps_in 0 (drop 5 s)
   pub near : at ≤ 5 + 3 * steps
-  pub few : steps ≤ step_limit + 6
+  pub few : steps ≤ step_limit
 
 pub upto_none : (s : List ℕ) → Upto s 5 0
 upto_none s = record { sum = omega arith; near = omega arith; few = omega arith }
 
 module _ {s : List ℕ} {at steps : ℕ} (u : Upto s at steps) where
-  pub upto_many : step_limit < steps → StepsCounted s steps
-  upto_many l = record { most = omega (arith, u.sum); all = λ m. absurd (omega arith); short = λ m. absurd (omega arith) }
-
-  pub upto_all : length s ≤ at → StepsCounted s steps
+  pub upto_all : length s ≤ at → CountedSteps s steps
   unfolding steps_in
   upto_all l =
       let e : steps_in 0 (drop at s) ≡ 0 = ap (steps_in 0) (drop_of_length-le s l) in
-      record { most = omega (arith, u.sum); all = λ m. omega (arith, u.sum); short = λ m. omega (arith, u.near) }
+      record { all = omega (arith, u.sum); few = u.few; short = omega (arith, u.near) }
 
-  pub upto_more : {f w : ℕ} → at < length s → steps ≤ step_limit → f ≡ fields_of (get_or s at 0) → f ≤ 2 → w ≡ own_steps (get_or s at 0) → 1 ≤ w → w ≤ 6 → Upto s (at + (1 + f)) (steps + w)
-  unfolding steps_in
-  upto_more {f} i l e f2 o w1 w6 =
-      let c = get_or s at 0 in
-      let here : steps_in 0 (drop at s) ≡ own_steps c + steps_in (fields_of c) (drop (suc at) s) = ap (steps_in 0) (drop-cons s at 0 i) in
-      let next : suc at + fields_of c ≡ at + (1 + f) = omega arith in
-      let there : steps_in (fields_of c) (drop (suc at) s) ≡ steps_in 0 (drop (at + (1 + f)) s) =
-      skipped (fields_of c) (drop (suc at) s) ∙ ap (steps_in 0) (drop-drop (fields_of c) (suc at) s ∙ ap (λ n. drop n s) next) in
-      record { sum = omega (arith, u.sum); near = omega (arith, u.near); few = omega arith }
+  -- the node at a place
+  module _ {f w : ℕ} (i : at < length s) (e : f ≡ fields_of (get_or s at 0)) (o : w ≡ own_steps (get_or s at 0)) where
+    one_more : steps_in 0 (drop at s) ≡ w + steps_in 0 (drop (at + (1 + f)) s)
+    unfolding steps_in
+    one_more =
+        let c = get_or s at 0 in
+        let here : steps_in 0 (drop at s) ≡ own_steps c + steps_in (fields_of c) (drop (suc at) s) = ap (steps_in 0) (drop-cons s at 0 i) in
+        let next : suc at + fields_of c ≡ at + (1 + f) = omega arith in
+        let there : steps_in (fields_of c) (drop (suc at) s) ≡ steps_in 0 (drop (at + (1 + f)) s) =
+        skipped (fields_of c) (drop (suc at) s) ∙ ap (steps_in 0) (drop-drop (fields_of c) (suc at) s ∙ ap (λ n. drop n s) next) in
+        omega (arith, here, there, o)
 
-pub ruleset counts = (upto_none, upto_many, upto_all, upto_more, rules)
+    pub upto_many : step_limit < steps + w → step_limit < steps_in 0 (drop 5 s)
+    upto_many l = omega (arith, u.sum, one_more)
+
+    pub upto_more : f ≤ 2 → 1 ≤ w → steps + w ≤ step_limit → Upto s (at + (1 + f)) (steps + w)
+    upto_more f2 w1 l = record { sum = omega (arith, u.sum, one_more); near = omega (arith, u.near); few = l }
 
 -- The bytes of a path or a qualifier hold its steps.
 two_parts : (m n : ℕ) (a b s : List ℕ) → steps_in 0 (a ++ (b ++ s)) ≡ m + steps_in 0 (b ++ s) → steps_in 0 (b ++ s) ≡ n + steps_in 0 s → steps_in 0 ((a ++ b) ++ s) ≡ m + n + steps_in 0 s

@@ -2,7 +2,8 @@
 ghost use Rattle.std.specs.Prelude.{◌≡◌, ◌≤◌};
 ghost use Rattle.translator.specs.Inside.Count.{fields_of, own_steps, StepsCounted};
 
-use crate::LIMIT;
+// The steps that a program may have.
+const LIMIT: u8 = meaning::STEPS as u8;
 
 // The bytes that a node has behind its code.
 fn fields(code: u8) -> usize
@@ -16,7 +17,7 @@ fn fields(code: u8) -> usize
 }
 
 // The steps of a node besides those of its parts: five more for //, one more for not.
-fn own_steps(code: u8) -> usize
+fn own_steps(code: u8) -> u8
     ensures { (result ≡ own_steps code) × (1 ≤ result) × (result ≤ 6) }
 {
     match code {
@@ -26,19 +27,21 @@ fn own_steps(code: u8) -> usize
     }
 }
 
-// The steps of an accepted query: those of its nodes, which stand one behind the other. Above the limit counting ends.
-pub(crate) fn steps(qry: &[u8]) -> usize
+// The steps of an accepted query, those of its nodes, which stand one behind the other; none where there are too many.
+#[tactic(auto, using(crate::proofs::Counting::upto_none))]
+pub(crate) fn steps(qry: &[u8]) -> Option<u8>
     ensures { StepsCounted qry.now result }
 {
     let mut at: usize = 5;
-    let mut steps: usize = 0;
+    let mut steps: u8 = 0;
+    // No `for`: how far the next node is depends on the code.
     while at < qry.len() {
-        if LIMIT < steps {
-            return steps;
-        }
         let code = qry[at];
         at += 1 + fields(code);
         steps += own_steps(code);
+        if LIMIT < steps {
+            return None;
+        }
     }
-    steps
+    Some(steps)
 }

@@ -4,26 +4,34 @@
 
 mod count;
 
-ghost use Rattle.std.specs.Prelude.{length};
-ghost use Rattle.writing.specs.Lent.{Leaves};
+ghost use Rattle.std.specs.Prelude.{◌≡◌, ◌≤◌, ◌++◌, length};
+ghost use Rattle.fields.specs.Write.{byte_of, header_of};
+ghost use Rattle.writing.specs.Lent.{Leaves, over};
 ghost use Rattle.translator.specs.Inside.Translated.{translated_under};
 ghost use Rattle.translator.specs.Translate.{translation};
 ghost use Rattle.translator.specs.Inside.Translatable.{AcceptedQuery, Translatable};
 
-use meaning::{Answer, Graph, Outcome, Reason};
+use meaning::{Answer, Graph, Reason};
+use writing::Writer;
 
-// The steps that a program may have.
-const LIMIT: usize = 24;
+// What stands before the steps: the header, and how many they are.
+fn write_head(steps: u8, out: &mut [u8])
+    requires { 6 ≤ length out.old }
+    ensures { out.new ≡ over 0 (header_of 0x52 0x45 0x4C 1 ++ byte_of steps) out.old }
+{
+    let mut w = Writer { out, at: 0 };
+    w.header(b'R', b'E', b'L', 1);
+    w.byte(steps);
+}
 
 // The program of a query that was accepted and is not too long, where there is room for it.
 fn written(g: Graph, qry: &[u8], steps: u8, out: &mut [u8]) -> Answer
     requires { Translatable g qry.now steps (length out.old) }
     ensures { Leaves (translated_under g qry.now out.old) result out.new }
 {
-    let after = writing::header(out, b'R', b'E', b'L', 1);
-    writing::byte(out, after, steps);
+    write_head(steps, out);
     descent::query(g, qry, out);
-    writing::accepted(6 + 3 * steps as u32)
+    writing::accepted(6 + 3 * u32::from(steps))
 }
 
 // What is still judged of a query that was accepted under a graph: its steps, then the room.
@@ -31,23 +39,20 @@ pub fn write(g: Graph, qry: &[u8], out: &mut [u8]) -> Answer
     requires { AcceptedQuery g qry.now }
     ensures { Leaves (translated_under g qry.now out.old) result out.new }
 {
-    let steps = count::steps(qry);
-    if LIMIT < steps {
+    let Some(steps) = count::steps(qry) else {
         return writing::refused(Reason::Steps);
+    };
+    if out.len() < 6 + 3 * usize::from(steps) {
+        return writing::refused(Reason::Room);
     }
-    if 6 + 3 * steps <= out.len() {
-        return written(g, qry, numbers::usize_to_u8(steps), out);
-    }
-    writing::refused(Reason::Room)
+    written(g, qry, steps, out)
 }
 
 pub fn translate(gra: &[u8], qry: &[u8], out: &mut [u8]) -> Answer
     ensures { Leaves (translation gra.now qry.now out.old) result out.new }
 {
-    let opened = files::query(gra, qry);
-    let outcome = opened.outcome;
-    if let Outcome::Refused(refusal) = outcome {
-        return writing::turned_away(refusal);
+    match files::query(gra, qry) {
+        Ok(opened) => write(opened.graph, qry, out),
+        Err(refusal) => writing::turned_away(refusal),
     }
-    write(opened.graph, qry, out)
 }

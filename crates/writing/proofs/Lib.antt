@@ -1,3 +1,4 @@
 pub mod Puts
+pub mod Writing
 pub mod Stored
 pub mod Toward

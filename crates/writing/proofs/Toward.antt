@@ -1,37 +1,31 @@
--- Writing by turns: what is left to write, and that with it the whole stands at its place.
-use Prim.Native.Nat.{ℕ, ◌+◌, ◌≤◌}
-use mathlib.Core.Path.{◌≡◌, refl, ap, ◌∙◌}
-use mathlib.Core.List.{List, [], ◌++◌}
-use native.Mathlib.Omega.{arith}
-use lib.ListN.{length, length-append}
-use Rattle.writing.specs.Inside.Put.{Put}
-use Rattle.writing.proofs.Puts.{put_nothing, put_then, put_length}
+-- Writing by turns: what is left to write, and that with it the whole is written.
+use Rattle.std.proofs.Common.{ℕ, List, [], ◌++◌, ◌+◌, ◌≤◌, ◌≡◌, length, ap, arith, length-append}
+use Rattle.writing.specs.declared.Writer.{Writer}
+use Rattle.writing.specs.Inside.Wrote.{Wrote}
+use Rattle.writing.proofs.Writing.{wrote_nothing, wrote_then}
 
--- of the bytes that are to stand at a place, the rest is still to come
-pub record Toward (at : ℕ) (whole old : List ℕ) (next : ℕ) (rest new : List ℕ) : Type 0 where
-  pub long : length new ≡ length old
-  pub room : next + length rest ≤ length new
-  completes : {after : ℕ} {newer : List ℕ} → Put next rest new newer after → Put at whole old newer after
+-- of the bytes that are to be written by a writer, the rest is still to come
+pub record Toward (whole : List ℕ) (old : Writer) (rest : List ℕ) (w : Writer) : Type 0 where
+  pub room : w.at + length rest ≤ length w.out.now
+  completes : {new : Writer} → Wrote rest w new → Wrote whole old new
 
-pub toward_none : {at : ℕ} {whole old : List ℕ} → at + length whole ≤ length old → Toward at whole old at whole old
-toward_none l = record { long = refl; room = l; completes = λ p. p }
+pub toward_none : {whole : List ℕ} {old : Writer} → old.at + length whole ≤ length old.out.now → Toward whole old whole old
+toward_none l = record { room = l; completes = λ p. p }
 
-module _ {at next : ℕ} {whole old rest new : List ℕ} where
+module _ {whole rest : List ℕ} {old w : Writer} where
   -- there is room for what comes next
-  pub toward_room : (bs more : List ℕ) → Toward at whole old next rest new → rest ≡ bs ++ more → next + length bs ≤ length new
+  pub toward_room : (bs more : List ℕ) → Toward whole old rest w → rest ≡ bs ++ more → w.at + length bs ≤ length w.out.now
   toward_room bs more so_far e = omega (arith, so_far.room, ap length e, length-append bs more)
 
-  pub toward_more : {bs newer : List ℕ} (more : List ℕ) {after : ℕ} → Put next bs new newer after → Toward at whole old next rest new → rest ≡ bs ++ more → Toward at whole old after more newer
+  pub toward_more : {bs : List ℕ} {next : Writer} (more : List ℕ) → Wrote bs w next → Toward whole old rest w → rest ≡ bs ++ more → Toward whole old more next
   toward_more {bs} more p so_far e =
-      let kept = put_length (toward_room bs more so_far e) p in
       record {
-        long = kept ∙ so_far.long;
-        room = omega (arith, so_far.room, ap length e, length-append bs more, p.behind);
-        completes = λ q. so_far.completes (rw e (put_then (omega (arith, so_far.room)) p q));
+        room = omega (arith, so_far.room, ap length e, length-append bs more, p.behind, p.long);
+        completes = λ q. so_far.completes (rw e (wrote_then p q));
       }
 
-  pub toward_last : {newer : List ℕ} {after : ℕ} → Toward at whole old next rest new → Put next rest new newer after → Put at whole old newer after
+  pub toward_last : {new : Writer} → Toward whole old rest w → Wrote rest w new → Wrote whole old new
   toward_last so_far p = so_far.completes p
 
-  pub toward_all : Toward at whole old next rest new → rest ≡ [] → Put at whole old new next
-  toward_all so_far e = so_far.completes (rw e (put_nothing next new))
+  pub toward_all : Toward whole old rest w → rest ≡ [] → Wrote whole old w
+  toward_all so_far e = so_far.completes (rw e (wrote_nothing w))

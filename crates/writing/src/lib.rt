@@ -4,10 +4,9 @@
 ghost use Rattle.std.specs.Prelude.{◌≡◌, ◌+◌, ◌<◌, ◌≤◌, length};
 ghost use Rattle.fields.specs.Write.{byte_of, word_of, header_of};
 ghost use Rattle.writing.specs.Lent.{accepted, turned_away};
-ghost use Rattle.writing.specs.Inside.Put.{Put};
+ghost use Rattle.writing.specs.Inside.Wrote.{Wrote};
 
 use meaning::{Answer, Reason, Refusal};
-use numbers::{high, low};
 
 pub fn accepted(count: u32) -> Answer
     ensures { result ≡ accepted count }
@@ -15,12 +14,12 @@ pub fn accepted(count: u32) -> Answer
     Answer { number: 0, count }
 }
 
+// No `From`: an impl stands beside one of its types, and both are `meaning`'s.
 pub fn turned_away(refusal: Refusal) -> Answer
     ensures { result ≡ turned_away refusal }
 {
-    let reason = refusal.reason;
     Answer {
-        number: meaning::number(reason),
+        number: u8::from(refusal.reason),
         count: 0,
     }
 }
@@ -32,30 +31,44 @@ pub fn refused(reason: Reason) -> Answer
     turned_away(Refusal { reason })
 }
 
-// Writes a byte, and answers where writing goes on.
-pub fn byte(out: &mut [u8], at: usize, value: u8) -> usize
-    requires { at < length out.old }
-    ensures { Put at (byte_of value) out.old out.new result }
-{
-    out[at] = value;
-    at + 1
+// Writes fields one behind the other into a lent buffer.
+#[derive(Drop)]
+pub struct Writer<'a> {
+    pub out: &'a mut [u8],
+    pub at: usize,
 }
 
-pub fn word(out: &mut [u8], at: usize, value: u16) -> usize
-    requires { at + 2 ≤ length out.old }
-    ensures { Put at (word_of value) out.old out.new result }
-{
-    let next = byte(out, at, high(value));
-    byte(out, next, low(value))
-}
+impl Writer<'_> {
+    pub fn byte(&mut self, value: u8)
+        requires { self.old.at < length self.old.out.now }
+        ensures { Wrote (byte_of value) self.old self.new }
+    {
+        self.out[self.at] = value;
+        self.at += 1;
+    }
 
-// A file's mark and its version, at the start.
-pub fn header(out: &mut [u8], a: u8, b: u8, c: u8, version: u16) -> usize
-    requires { 5 ≤ length out.old }
-    ensures { Put 0 (header_of a b c version) out.old out.new result }
-{
-    let second = byte(out, 0, a);
-    let third = byte(out, second, b);
-    let last = byte(out, third, c);
-    word(out, last, version)
+    pub fn bytes(&mut self, bytes: &[u8])
+        requires { self.old.at + length bytes.now ≤ length self.old.out.now }
+        ensures { Wrote bytes.now self.old self.new }
+    {
+        let end = self.at + bytes.len();
+        self.out[self.at..end].copy_from_slice(bytes);
+        self.at = end;
+    }
+
+    pub fn word(&mut self, value: u16)
+        requires { self.old.at + 2 ≤ length self.old.out.now }
+        ensures { Wrote (word_of value) self.old self.new }
+    {
+        self.bytes(&value.to_be_bytes());
+    }
+
+    // A file's mark and its version.
+    pub fn header(&mut self, a: u8, b: u8, c: u8, version: u16)
+        requires { self.old.at + 5 ≤ length self.old.out.now }
+        ensures { Wrote (header_of a b c version) self.old self.new }
+    {
+        self.bytes(&[a, b, c]);
+        self.word(version);
+    }
 }

@@ -29,10 +29,6 @@ row_of c =
     (pick (eqb c 0x14) (Row.Two Second.After Operator.Both)
     (Row.Two Second.After Operator.Union)))))))))))
 
--- a graph, by its parts
-abbrev pub graph_of : ℕ → ℕ → List ℕ → Graph
-graph_of k root masks = record { k = k; root = root; children = masks }
-
 -- A leaf whose fields stand at a place, the bytes from there on being xs: the byte behind them, the kinds there, and its step.
 abbrev pub leaf_end : Leaf → ℕ → ℕ
 leaf_end Leaf.Itself at = at

@@ -1,10 +1,8 @@
 -- What the code's answers say of the files that were read.
-use Rattle.std.specs.Prelude.{ℕ, ◌-◌, ◌≤◌, ◌≡◌, List, length}
+use Rattle.std.specs.Prelude.{ℕ, ◌-◌, ◌≤◌, ◌≡◌, List, length, take, Result, Ok, Err}
 use Rattle.meaning.specs.declared.Element.{Element}
 use Rattle.meaning.specs.declared.Graph.{Graph}
 use Rattle.meaning.specs.declared.Operation.{Operation}
-use Rattle.meaning.specs.declared.Outcome.{Outcome}
-use Rattle.meaning.specs.declared.Outcome.TheVariants as outcome
 use Rattle.meaning.specs.declared.Program.{Program}
 use Rattle.meaning.specs.declared.Refusal.{Refusal}
 use Rattle.meaning.specs.Limits.{element_limit, query_limit, step_limit}
@@ -14,40 +12,43 @@ use Rattle.meaning.specs.Queries.{XPath}
 use Rattle.meaning.specs.Operations.{LegalProgram}
 use Rattle.meaning.specs.Inside.Records.{operations_in, Numbered}
 use Rattle.fields.specs.Read.{Read, got, refused}
-use Rattle.elements.specs.Inside.Packing.{kept_in}
+use Rattle.files.specs.declared.Opened.{Opened}
+use Rattle.files.specs.declared.Asked.{Asked}
+use Rattle.files.specs.declared.Checkable.{Checkable}
+use Rattle.files.specs.declared.Runnable.{Runnable}
 
--- e came out so, and what was read has P
-pub record Opens {A : Type 0} (e : Read A) (o : Outcome) (P : A → Type 0) : Type 0 where
-  pub turned : {r : Refusal} → o ≡ outcome.Refused r → e ≡ refused r
-  pub held : o ≡ outcome.Accepted → (a : A) × (n : ℕ) × (e ≡ got a n) × P a
+-- e was refused so, or what is handed on of what was read has P with it
+abbrev pub Opens : {A V : Type 0} → Read A → Result V Refusal → (V → A → Type 0) → Type 0
+Opens {A} e (Ok v) P = (a : A) × (n : ℕ) × (e ≡ got a n) × P v a
+Opens e (Err r) P = e ≡ refused r
 
 -- a graph that is legal, and elements that are accepted under it, the first that are kept
-pub record OfElements (g : Graph) (kept : List ℕ) (count : ℕ) (x : Graph × List Element) : Type 0 where
-  pub graph : x.0 ≡ g
-  pub elements : x.1 ≡ kept_in kept count
-  pub legal : LegalGraph g
-  pub accepted : Accepted element_limit g (kept_in kept count)
-  pub whole : length (kept_in kept count) ≡ count
-  pub room : count ≤ length kept
+pub record OfElements (kept : List Element) (o : Opened) (x : Graph × List Element) : Type 0 where
+  pub graph : x.0 ≡ o.graph
+  pub elements : x.1 ≡ take o.count kept
+  pub legal : LegalGraph o.graph
+  pub accepted : Accepted element_limit o.graph (take o.count kept)
+  pub whole : length (take o.count kept) ≡ o.count
+  pub room : o.count ≤ length kept
 
 -- a query's nodes are counted
-pub record OfQuery (g : Graph) (nodes : ℕ) (x : Graph × (XPath × ℕ)) : Type 0 where
-  pub graph : x.0 ≡ g
-  pub legal : LegalGraph g
-  pub counts : nodes ≡ query_limit - x.1.1
+pub record OfQuery (o : Asked) (x : Graph × (XPath × ℕ)) : Type 0 where
+  pub graph : x.0 ≡ o.graph
+  pub legal : LegalGraph o.graph
+  pub counts : o.nodes ≡ query_limit - x.1.1
 
 -- the steps are a legal program, each with its place as its number
-pub record OfProgram (g : Graph) (program : Program) (x : Graph × List Operation) : Type 0 where
-  pub graph : x.0 ≡ g
-  pub steps : x.1 ≡ operations_in program
-  pub legal : LegalGraph g
-  pub lawful : LegalProgram step_limit g.k (operations_in program)
-  pub whole : length (operations_in program) ≡ program.count
-  pub numbered : Numbered program
+pub record OfProgram (o : Checkable) (x : Graph × List Operation) : Type 0 where
+  pub graph : x.0 ≡ o.graph
+  pub steps : x.1 ≡ operations_in o.program
+  pub legal : LegalGraph o.graph
+  pub lawful : LegalProgram step_limit o.graph.k (operations_in o.program)
+  pub whole : length (operations_in o.program) ≡ o.program.count
+  pub numbered : Numbered o.program
 
-abbrev pub OfTablesThenQuery : Graph → List ℕ → ℕ → Graph × (List Element × (XPath × ℕ)) → Type 0
-OfTablesThenQuery g kept count x = OfElements g kept count (x.0, x.1.0)
+abbrev pub OfTablesThenQuery : List Element → Opened → Graph × (List Element × (XPath × ℕ)) → Type 0
+OfTablesThenQuery kept o x = OfElements kept o (x.0, x.1.0)
 
-pub record OfTablesThenProgram (kept : List ℕ) (count : ℕ) (program : Program) (x : Graph × (List Element × List Operation)) : Type 0 where
-  pub elements : OfElements x.0 kept count (x.0, x.1.0)
-  pub steps : OfProgram x.0 program (x.0, x.1.1)
+pub record OfTablesThenProgram (kept : List Element) (o : Runnable) (x : Graph × (List Element × List Operation)) : Type 0 where
+  pub elements : OfElements kept (record { graph = x.0; count = o.count }) (x.0, x.1.0)
+  pub steps : OfProgram (record { graph = x.0; program = o.program }) (x.0, x.1.1)

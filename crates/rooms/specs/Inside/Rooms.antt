@@ -1,12 +1,14 @@
 -- Rooms of rows: what the functions over rooms find in the work area and leave there. A row is width bytes, and a room has
 -- as many rows as a row has bits.
 use Rattle.std.specs.Prelude.{ℕ, ◌+◌, ◌≤◌, ◌<◌, ◌≡◌, Bool, true, false, ◌&&◌, ◌||◌, cond, List, eqb, ltb, length}
+use Rattle.meaning.specs.declared.Element.{Element}
 use Rattle.meaning.specs.Limits.{small, row_bits, room_bytes}
 use Rattle.meaning.specs.Sets.{any}
 use Rattle.meaning.specs.Relations.{Relation}
 use Rattle.meaning.specs.Documents.{View, is_element}
 use Rattle.rows.specs.declared.Mix.TheVariants.{First}
-use Rattle.rows.specs.Inside.Rows.{gathered, mixes, rows_at, OthersStay}
+use Rattle.rows.specs.Inside.Rows.{in_row, gathered, mixes, rows_at, OthersStay}
+use Rattle.rooms.specs.declared.row.Room.{Room}
 use Rattle.rooms.specs.declared.room.Test.{Test}
 use Rattle.rooms.specs.declared.room.Test.TheVariants.{Always, Text, Related}
 use Rattle.rooms.specs.declared.room.Way.{Way}
@@ -36,16 +38,16 @@ added v w there r u x = r u x || (there && (eqb v u && eqb w x))
 unfoldable pub starting : ℕ → ℕ → Relation → ℕ → Bool
 starting limit n r u = ltb u n && any limit (r u)
 
--- a number passes a test, of what a document shows or of the room at a place
+-- a number passes a test, of what a document shows or of a room
 unfoldable pub passing : ℕ → View → List ℕ → Test → ℕ → Bool
 passing width d bytes Always v = d.there v
 passing width d bytes (Text number) v = is_element d v && eqb (d.text v) number
-passing width d bytes (Related a) v = any d.size (rows_at width bytes a v)
+passing width d bytes (Related a) v = any d.size (rows_at width bytes a.base v)
 
 -- Two relations, mixed; or joined, through numbers below limit that are there.
-unfoldable pub combined : ℕ → Way → (ℕ → Bool) → Relation → Relation → Relation
-combined limit (Mixed how) there r s v w = mixes how (r v w) (s v w)
-combined limit Joined there r s v w = any limit (λ u. (r v u && there u) && s u w)
+unfoldable pub combined : ℕ → Way → Relation → Relation → Relation
+combined limit (Mixed how) r s v w = mixes how (r v w) (s v w)
+combined limit (Joined there) r s v w = any limit (λ u. (r v u && in_row there.words u) && s u w)
 
 -- The room at base is inside the work area, which has so many bytes; those at a and b, of which it is made, stand before
 -- it; and it relates numbers below size.
@@ -56,12 +58,11 @@ pub record Places (width bytes base a b size : ℕ) : Type 0 where
   pub right : b + room_bytes width ≤ base
   pub few : size ≤ row_bits width
 
--- a room that the test reads ends before a place, and count elements are kept
-pub record Testable (width end kept count : ℕ) (test : Test) : Type 0 where
+-- a room that the test reads ends before a place, and a row has a bit for each node
+pub record Testable (width end : ℕ) (es : List Element) (test : Test) : Type 0 where
   pub sized : RowWidth width
-  pub before : (a : ℕ) → test ≡ Related a → a + room_bytes width ≤ end
-  pub few : count < row_bits width
-  pub held : count ≤ kept
+  pub before : (a : Room) → test ≡ Related a → a.base + room_bytes width ≤ end
+  pub few : length es < row_bits width
 
 -- the room at base holds r, and all else stays
 pub record RoomMade (width : ℕ) (old new : List ℕ) (base : ℕ) (r : Relation) : Type 0 where

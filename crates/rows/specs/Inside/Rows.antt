@@ -67,11 +67,6 @@ pub record OthersStay (old new : List ℕ) (from size : ℕ) : Type 0 where
   pub before : (i : ℕ) → i < from → get_or new i 0 ≡ get_or old i 0
   pub after : (i : ℕ) → from + size ≤ i → get_or new i 0 ≡ get_or old i 0
 
--- so many bytes from a place on are f's, and all else stays
-pub record BytesMade (old new : List ℕ) (from size : ℕ) (f : ℕ → ℕ) : Type 0 where
-  pub bytes : (k : ℕ) → k < size → get_or new (from + k) 0 ≡ f k
-  pub others : OthersStay old new from size
-
 -- the bits at a place, width bytes of them, are those that pass, and all else stays
 pub record RowMade (width : ℕ) (old new : List ℕ) (at : ℕ) (f : ℕ → Bool) : Type 0 where
   pub bits : (w : ℕ) → in_bytes (stretch width new at) w ≡ f w

@@ -1,13 +1,13 @@
 -- What the reader keeps of the rows so far, and how its functions' answers say what was read.
-use Rattle.std.specs.Prelude.{ℕ, ◌+◌, ◌*◌, ◌-◌, ◌≤◌, ◌<◌, ◌≡◌, List, [], ◌∷◌, map, length, get_or, set, replicate}
+use Rattle.std.specs.Prelude.{ℕ, ◌+◌, ◌*◌, ◌-◌, ◌≤◌, ◌≡◌, List, [], ◌∷◌, length, get_or, set, replicate, Result, Ok, Err, IfOk}
 use Rattle.meaning.specs.declared.Element.{Element}
+use Rattle.meaning.specs.declared.Refusal.{Refusal}
 use Rattle.meaning.specs.Limits.{small, element_limit}
-use Rattle.meaning.specs.Documents.{document_node, node}
-use Rattle.fields.specs.Inside.Outcomes.{beside}
-use Rattle.fields.specs.Read.{Read}
-use Rattle.fields.specs.declared.Field.{Field}
-use Rattle.elements.specs.Inside.Packing.{element_in, kept_in}
+use Rattle.meaning.specs.Documents.{document_node}
+use Rattle.fields.specs.declared.Cursor.{Cursor}
+use Rattle.fields.specs.Read.{Read, got, refused}
 use Rattle.edg.specs.declared.Row.{Row}
+use Rattle.tables.specs.declared.Numbers.{Numbers}
 
 -- the bytes of a row: two numbers of nodes and a text number
 abbrev pub row_length : ℕ
@@ -20,8 +20,8 @@ pub record Gathered : Type 0 where
   pub total : ℕ
 
 -- what is kept of the rows in the places that are lent for it
-abbrev pub gathered_in : List ℕ → List ℕ → ℕ → Gathered
-gathered_in kept times total = record { elements = map element_in kept; times = times; total = total }
+abbrev pub gathered_in : List Element → Numbers → Gathered
+gathered_in kept n = record { elements = kept; times = n.times; total = n.total }
 
 unfoldable pub none : Gathered
 none = record { elements = replicate element_limit document_node; times = replicate element_limit 0; total = 0 }
@@ -45,13 +45,12 @@ pub record Sound (c : Gathered) : Type 0 where
   pub total_most : c.total ≤ element_limit
   pub falling : (i : ℕ) → (get_or c.elements i document_node).parent ≤ i
 
--- e was read: it is kept, beside where reading goes on, or the refusal was met
-pub record GatheredRead (next : Field) (c : Gathered) (e : Read Gathered) : Type 0 where
-  pub sound : Sound c
-  pub right : beside next c ≡ e
+-- what an answer says of what is kept: it is what was read, beside where reading goes on, or the refusal
+abbrev pub gathered_of : Gathered → Result (Unit {0} × Cursor) Refusal → Read Gathered
+gathered_of c (Ok (u, next)) = got c next.at
+gathered_of c (Err r) = refused r
 
--- from each element that is kept, parents lead up to the document node
-pub record Climbable (kept : List ℕ) (total : ℕ) : Type 0 where
-  pub room : total ≤ length kept
-  pub most : total ≤ element_limit
-  pub falling : (v : ℕ) → 0 < v → (node (kept_in kept total) v).parent < v
+-- e was read: it is kept and sound, or the refusal was met
+pub record GatheredRead (r : Result (Unit {0} × Cursor) Refusal) (c : Gathered) (e : Read Gathered) : Type 0 where
+  pub right : e ≡ gathered_of c r
+  pub sound : IfOk r (λ _. Sound c)

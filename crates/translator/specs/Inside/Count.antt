@@ -1,5 +1,5 @@
 -- Counting the steps of a query over its bytes, node by node.
-use Rattle.std.specs.Prelude.{ℕ, zero, suc, ◌+◌, ◌*◌, ◌≤◌, ◌≡◌, List, [], ◌∷◌, eqb, length, drop}
+use Rattle.std.specs.Prelude.{ℕ, zero, suc, ◌+◌, ◌*◌, ◌<◌, ◌≤◌, ◌≡◌, List, [], ◌∷◌, eqb, length, drop, Option, Some, None}
 use Rattle.meaning.specs.Limits.{step_limit}
 use Rattle.fields.specs.Read.{pick}
 
@@ -17,8 +17,13 @@ steps_in n [] = 0
 steps_in zero (c ∷ s) = own_steps c + steps_in (fields_of c) s
 steps_in (suc n) (c ∷ s) = steps_in n s
 
--- n is the number of steps behind the header, unless there are too many; then it is too many as well. A step has three bytes at most
-pub record StepsCounted (s : List ℕ) (n : ℕ) : Type 0 where
-  pub most : n ≤ steps_in 0 (drop 5 s)
-  pub all : n ≤ step_limit → n ≡ steps_in 0 (drop 5 s)
-  pub short : n ≤ step_limit → length s ≤ 5 + 3 * n
+-- the steps behind the header are n, which are not too many; each node has three bytes at most
+pub record CountedSteps (s : List ℕ) (n : ℕ) : Type 0 where
+  pub all : n ≡ steps_in 0 (drop 5 s)
+  pub few : n ≤ step_limit
+  pub short : length s ≤ 5 + 3 * n
+
+-- the steps are counted, or they are too many
+abbrev pub StepsCounted : List ℕ → Option ℕ → Type 0
+StepsCounted s (Some n) = CountedSteps s n
+StepsCounted s None = step_limit < steps_in 0 (drop 5 s)

@@ -1,4 +1,4 @@
--- What a field writer does.
+-- What a call that writes from a place of a buffer on leaves there, and where it ends.
 use Rattle.std.specs.Prelude.{ℕ, ◌+◌, ◌≡◌, List, length}
 use Rattle.writing.specs.Lent.{over}
 

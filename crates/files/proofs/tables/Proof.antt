@@ -1,7 +1,0 @@
--- The graph turns the call away, or the file after it is what decides.
-use Rattle.files.proofs.Opening.{laws}
-use Rattle.files.proofs.tables.Statement.{statement}
-use Rattle.files.proofs.tables.Tie as tie
-
-pub tables_spec : {M : Type 1} → statement M
-tables_spec = tie.close (tie.spec (λ c κs. search laws) (λ c. search laws) (λ c. search laws) (λ c. search laws) (λ c κs. search laws) (λ c. search laws) (λ c. search laws))

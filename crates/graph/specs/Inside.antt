@@ -1,2 +1,0 @@
--- What functions of the library ask of each other: no caller has to believe it.
-pub mod GraphRead

@@ -1,0 +1,9 @@
+-- Each place takes the next number, until it is not below size or no place is left.
+use Rattle.rows.proofs.Tallies.{listing_none, listing_more}
+use Rattle.rows.proofs.Row.list.Goals as goal
+
+pub loop-place-init : goal.loop-place-init
+loop-place-init c = listing_none c.next-w.ensures
+
+pub loop-place-preserved : goal.loop-place-preserved
+loop-place-preserved c = listing_more c.loop-place.invariant c.requires.0 c.requires.1 c.if-size-w.false c.next-w-in-loop-place.ensures
