@@ -19,7 +19,7 @@
  * - What a lent buffer held before never matters, and the bytes past what is
  *   written stay as they were.
  * - A call must have the stack it needs. tests/stack measures each: tb_run stays
- *   within 4,096 bytes, and tb_check takes the most, just under 12,500.
+ *   within 4,096 bytes, and tb_check takes the most, about 11,200.
  *
  * The five files, after a mark of three letters and a 16-bit version, 1
  * (numbers of 16 bits are big-endian, all other numbers are one byte):

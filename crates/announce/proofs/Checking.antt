@@ -7,7 +7,6 @@ use lib.ListN.{length, get_or, replicate}
 use borrow.Author.Rules.{rules}
 use Rattle.meaning.specs.declared.Graph.{Graph}
 use Rattle.meaning.specs.declared.Operation.{Operation}
-use Rattle.meaning.specs.declared.Program.{Program}
 use Rattle.meaning.specs.declared.Refusal.{Refusal}
 use Rattle.meaning.specs.Limits.{kinds, step_limit}
 use Rattle.meaning.specs.Relations.{nothing, at}
@@ -26,7 +25,6 @@ use Rattle.masks.specs.declared.Announced.{Announced}
 use Rattle.masks.specs.Inside.Pairs.{LegalUnder}
 use Rattle.masks.specs.Announcement.{announcement, rel_of}
 use Rattle.masks.proofs.Announcement.{nothing_on, sets_made, blank, announcement_shown}
-use Rattle.announce.specs.declared.Checked.{Checked}
 use Rattle.announce.specs.Check.{checked, check_of}
 
 pub refused_made : (r : Refusal) (n : ℕ) (e : Announced) → n ≡ number_of r.reason → length e.pairs ≡ kinds → rel_of e ≡ nothing

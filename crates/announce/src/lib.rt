@@ -8,7 +8,8 @@ ghost use Rattle.announce.specs.Check.{checked, check_of};
 use masks::Announced;
 use meaning::{Refusal, STEPS};
 
-// What the check answers: 0 and the announcement of each step, with no pairs past the last; or a refusal's number and no pairs.
+// What the check answers: 0 and the announcement of each step, with no pairs past the last; or a refusal's number and no pairs. C is handed
+// it by value.
 #[repr(C)]
 #[derive(Clone, Copy)]
 pub struct Checked {

@@ -3,12 +3,12 @@
 // `work`. A call that takes fewer files or buffers has arguments that it doesn't look at.
 #![tactic(auto)]
 
-ghost use Rattle.std.specs.Prelude.{◌≡◌, ◌+◌, ◌<◌, ◌≤◌, ◌^◌, length, take};
+ghost use Rattle.std.specs.Prelude.{◌+◌, ◌≤◌, ◌^◌, length};
 
 use announce::Checked;
 use loading::{argument, is_there, load};
 use masks::Announced;
-use meaning::Answer;
+use meaning::{Answer, STEPS};
 use std::env::Env;
 use std::fs::Files;
 use std::io;
@@ -18,7 +18,7 @@ const WORDS: usize = 6;
 // The most that can be lent of each buffer; the longest listing has 1,563 bytes, and 24 steps take 49,152.
 const OUT: usize = 2048;
 
-const WORK: usize = 49152;
+const WORK: usize = 2048 * STEPS;
 // Sums of bytes are taken modulo this prime, 2^56 - 5.
 const MODULUS: u64 = 72057594037927931;
 
@@ -207,24 +207,24 @@ fn show_ask(
 }
 
 // As much of a buffer as a case lends.
-fn lent(room: u32, buffer: &[u8]) -> usize
-    ensures { result ≤ length buffer.now }
+fn lent<'a>(room: u32, buffer: &'a mut [u8]) -> &'a mut [u8]
+    ensures { length result.now ≤ length buffer.old }
 {
-    (room as usize).min(buffer.len())
+    let n = (room as usize).min(buffer.len());
+    &mut buffer[..n]
 }
 
 fn lend_one(rt: &impl Print, which: Converting, case: Case<'_>) -> io::Result<()> {
     let mut out = [0u8; OUT];
-    let n = lent(case.out_room, &out);
-    show_convert(rt, which, case, &mut out[..n])
+    show_convert(rt, which, case, lent(case.out_room, &mut out))
 }
 
 fn lend_two(rt: &impl Print, which: Asking, case: Case<'_>) -> io::Result<()> {
     let mut out = [0u8; OUT];
-    let n = lent(case.out_room, &out);
     let mut work = [0u8; WORK];
-    let m = lent(case.work_room, &work);
-    show_ask(rt, which, case, &mut out[..n], &mut work[..m])
+    let out = lent(case.out_room, &mut out);
+    let work = lent(case.work_room, &mut work);
+    show_ask(rt, which, case, out, work)
 }
 
 fn make(rt: &impl Print, case: Case<'_>) -> io::Result<()> {
@@ -238,10 +238,10 @@ fn make(rt: &impl Print, case: Case<'_>) -> io::Result<()> {
 // The number that an argument spells in decimal, with five digits at most.
 fn number(rt: &impl Env, at: usize) -> u32 {
     let mut text = [0u8; 5];
-    let n = argument(rt, at, &mut text);
-    decimal(&text[..n])
+    decimal(argument(rt, at, &mut text))
 }
 
+// Not `str::parse`, which refuses what isn't a number: any bytes have to give the number that they gave before.
 fn decimal(text: &[u8]) -> u32 {
     let mut value: u32 = 0;
     for glyph in text {
@@ -251,13 +251,11 @@ fn decimal(text: &[u8]) -> u32 {
 }
 
 // The file that an argument names.
-fn file(rt: &(impl Env + Files), at: usize, buffer: &mut [u8]) -> usize
-    ensures inside { result ≤ length buffer.new }
-    ensures prefix { result ≡ length (take result buffer.new) }
+fn file<'a>(rt: &(impl Env + Files), at: usize, buffer: &'a mut [u8]) -> &'a [u8]
+    ensures { length result.now ≤ length buffer.old }
 {
     let mut name = [0u8; 64];
-    let n = argument(rt, at, &mut name);
-    load(rt, &name[..n], buffer)
+    load(rt, argument(rt, at, &mut name), buffer)
 }
 
 // The buffers are longer than any file among the vectors.
@@ -265,18 +263,14 @@ fn judge(rt: &(impl Env + Files + Print), first: usize) -> io::Result<()>
     requires { first + 6 ≤ 2 ^ 64 }
 {
     let mut name = [0u8; 64];
-    let n = argument(rt, first, &mut name);
     let mut gra = [0u8; 1024];
-    let g = file(rt, first + 1, &mut gra);
     let mut second = [0u8; 1024];
-    let s = file(rt, first + 2, &mut second);
     let mut third = [0u8; 1024];
-    let t = file(rt, first + 3, &mut third);
     let case = Case {
-        name: &name[..n],
-        gra: &gra[..g],
-        second: &second[..s],
-        third: &third[..t],
+        name: argument(rt, first, &mut name),
+        gra: file(rt, first + 1, &mut gra),
+        second: file(rt, first + 2, &mut second),
+        third: file(rt, first + 3, &mut third),
         out_room: number(rt, first + 4),
         work_room: number(rt, first + 5),
     };

@@ -1,10 +1,9 @@
 -- What is answered for files: the first refusal met, or what is written of the elements.
-use Prim.Native.Nat.{ℕ, ◌≤◌}
+use Prim.Native.Nat.{ℕ}
 use Rattle.std.proofs.Common.{Ok}
-use lib.ListN.{length, take}
+use lib.ListN.{take}
 use mathlib.Core.List.{List}
 use mathlib.Core.Path.{◌≡◌}
-use borrow.Author.Rules.{rules}
 use Rattle.meaning.specs.declared.Answer.{Answer}
 use Rattle.meaning.specs.declared.Element.{Element}
 use Rattle.meaning.specs.declared.Graph.{Graph}
@@ -19,8 +18,6 @@ use Rattle.files.specs.declared.Opened.{Opened}
 use Rattle.files.specs.Inside.Opens.{Opens, OfElements}
 use Rattle.files.specs.Files.{document_under, tables_under}
 use Rattle.files.proofs.Handed.{under_got, mapped_got, mapped_refused}
-use Rattle.shredder.specs.Inside.RowsFit.{HeldUnder}
-use Rattle.rebuilder.specs.Inside.TokensFit.{Held}
 use Rattle.convert.specs.Convert.{shredded, rebuilt}
 
 module _ (gra file out : List ℕ) where

@@ -10,12 +10,12 @@ ghost use Rattle.std.specs.Prelude.{length};
 ghost use Rattle.descent.specs.Inside.Dues.{start, Due, Done};
 
 use crate::rows::Row;
-use meaning::Graph;
+use meaning::{DOCUMENT, Graph};
 use steps::Place;
 
 // The descent begins behind the query's header, at the document node.
 const START: Place = Place {
-    kinds: 0x10000,
+    kinds: 1 << DOCUMENT,
     at: 5,
     steps: 0,
 };

@@ -8,11 +8,14 @@ ghost use Rattle.meaning.specs.Documents.{node};
 ghost use Rattle.fields.specs.Read.{mapped};
 ghost use Rattle.fields.specs.Inside.Outcomes.{read_of};
 ghost use Rattle.elements.specs.Inside.Keeping.{Keeps};
-ghost use Rattle.tre.specs.Tre.{nothing_open, pushed, popped, code, new_type, opened, token, tokens, document_file};
+ghost use Rattle.tre.specs.Tre.{pushed, popped, code, new_type, opened, token, tokens, document_file};
 
 use elements::node_at;
 use fields::{Cursor, Field};
 use meaning::{Element, Graph, Reason, Refusal, SMALL};
+
+// The places where elements are kept.
+type Places = [Element; SMALL.elements];
 
 // Where reading stands: how many elements are kept so far, and the innermost that is open. The places where they are kept go
 // beside it: with them in it, each contract would have to say that they are still the same ones.
@@ -23,7 +26,7 @@ struct Standing {
     ghost few: { count ≤ element_limit },
 }
 
-// The code of a token, behind so many elements.
+// The code of a token, behind so many elements. 0x01 and 0x02 are the file's bytes.
 fn code(s: &[u8], c: Cursor, count: usize) -> Field<u8>
     ensures { read_of result ≡ code element_limit count s.now c.at }
 {
@@ -43,16 +46,14 @@ impl Standing {
     ghost use Rattle.document.specs.Inside.States.{open_in};
 
     // The innermost that is open.
-    fn innermost(self, kept: &[Element]) -> Element
-        requires { length kept.now ≡ element_limit }
+    fn innermost(self, kept: &Places) -> Element
         ensures { result ≡ node (take self.count kept.now) self.inner }
     {
         node_at(&kept[..self.count], self.inner)
     }
 
     // The type of an element that may stand in the innermost.
-    fn new_type(self, kept: &[Element], s: &[u8], g: Graph, c: Cursor) -> Field<u8>
-        requires { length kept.now ≡ element_limit }
+    fn new_type(self, kept: &Places, s: &[u8], g: Graph, c: Cursor) -> Field<u8>
         ensures { read_of result ≡ new_type g (open_in kept.now self) s.now c.at }
     {
         let read = c.byte_below(s, g.k, Reason::Kind);
@@ -65,9 +66,8 @@ impl Standing {
     }
 
     // The new element goes behind the last, and is the innermost.
-    fn push(self, kept: &mut [Element], kind: u8, text: u16) -> Standing
-        requires long { length kept.old ≡ element_limit }
-        requires room { self.count < element_limit }
+    fn push(self, kept: &mut Places, kind: u8, text: u16) -> Standing
+        requires { self.count < element_limit }
         ensures { open_in kept.new result ≡ pushed (open_in kept.old self) kind text }
     {
         kept[self.count] = Element {
@@ -83,9 +83,8 @@ impl Standing {
     }
 
     // After 0x01: the type, then the text.
-    fn opened(self, kept: &mut [Element], s: &[u8], g: Graph, c: Cursor) -> Field<Standing>
-        requires long { length kept.old ≡ element_limit }
-        requires room { self.count < element_limit }
+    fn opened(self, kept: &mut Places, s: &[u8], g: Graph, c: Cursor) -> Field<Standing>
+        requires { self.count < element_limit }
         ensures { mapped (open_in kept.new) (read_of result) ≡ opened g (open_in kept.old self) s.now c.at }
     {
         let (kind, after) = self.new_type(kept, s, g, c)?;
@@ -94,8 +93,7 @@ impl Standing {
     }
 
     // After 0x02: the parent is the innermost again.
-    fn popped(self, kept: &[Element]) -> Standing
-        requires { length kept.now ≡ element_limit }
+    fn popped(self, kept: &Places) -> Standing
         ensures { open_in kept.now result ≡ popped (open_in kept.now self) }
     {
         Standing {
@@ -105,8 +103,7 @@ impl Standing {
     }
 
     // One token: it opens an element, or closes the innermost.
-    fn token(self, kept: &mut [Element], s: &[u8], g: Graph, c: Cursor) -> Field<Standing>
-        requires { length kept.old ≡ element_limit }
+    fn token(self, kept: &mut Places, s: &[u8], g: Graph, c: Cursor) -> Field<Standing>
         ensures { mapped (open_in kept.new) (read_of result) ≡ token element_limit g (open_in kept.old self) s.now c.at }
     {
         let (code, after) = code(s, c, self.count)?;
@@ -117,8 +114,7 @@ impl Standing {
     }
 
     // The tokens from here on, up to the close of element 1.
-    fn read_tokens(self, kept: &mut [Element], s: &[u8], g: Graph, c: Cursor) -> Field<Standing>
-        requires { length kept.old ≡ element_limit }
+    fn read_tokens(self, kept: &mut Places, s: &[u8], g: Graph, c: Cursor) -> Field<Standing>
         ensures { mapped (λ o. o.elements) (mapped (open_in kept.new) (read_of result)) ≡ tokens (length s.now) element_limit g (open_in kept.old self) s.now c.at }
     {
         let mut standing = self;
@@ -133,11 +129,15 @@ impl Standing {
     }
 }
 
+// The places are lent as a slice whose length is asked for: an array type would ask more of callers.
 pub fn read(s: &[u8], g: Graph, kept: &mut [Element]) -> Result<usize, Refusal>
     requires { length kept.old ≡ element_limit }
     ensures { Keeps (document_file element_limit g s.now 0) kept.new result }
 {
     let (_, first) = Cursor::start().header(s, b'T', b'R', b'E', 1)?;
+    let Some(kept) = kept.as_mut_array() else {
+        unreachable!()
+    };
     let nothing = Standing { count: 0, inner: 0 };
     let (standing, last) = nothing.read_tokens(kept, s, g, first)?;
     last.end(s)?;

@@ -5,12 +5,12 @@
 ghost use Rattle.std.specs.Prelude.{◌≡◌};
 ghost use Rattle.meaning.specs.Documents.{node};
 
-use meaning::Element;
+use meaning::{DOCUMENT, Element};
 
 // The document node, which also stands for every element that there isn't.
 pub const DOCUMENT_NODE: Element = Element {
     parent: 0,
-    kind: 16,
+    kind: DOCUMENT as u8,
     text: 0,
 };
 

@@ -4,7 +4,7 @@ use native.Mathlib.Nat.{div-eq_of_lt, div-lt_iff_lt-mul, one-le-pow, pow-le-pow_
 use borrow.Author.Tests.{ltb-true, leb-true, eqb-true}
 use Rattle.meaning.proofs.Tests.{same, and_left, and_right}
 use Rattle.meaning.specs.declared.Reason.{Reason}
-use Rattle.fields.specs.Read.{Reader, got, judge, judged, byte_below, byte_up_to}
+use Rattle.fields.specs.Read.{Reader, got, judge, judged, byte_up_to}
 use Rattle.fields.proofs.Formats.{bind_out, judge_out, got_same}
 
 -- what was judged has passed
@@ -16,14 +16,8 @@ module _ (r : Reason) (s : List ℕ) (at : ℕ) {v n : ℕ} where
       let (_, _, i, w) = bind_out (judge at (test a) r s k) _ j in
       rw (got_same w).0 at (judge_out at (test a) r s k i).0
 
-  pub below_limit : (limit : ℕ) → got v n ≡ byte_below limit r s at → v < limit
-  below_limit limit h = ltb-true v limit (judged_true _ _ h)
-
   pub up_to_limit : (limit : ℕ) → got v n ≡ byte_up_to limit r s at → v ≤ limit
   up_to_limit limit h = leb-true v limit (and_right (leb 1 v) _ (judged_true _ _ h))
-
-  pub up_to_some : (limit : ℕ) → got v n ≡ byte_up_to limit r s at → 1 ≤ v
-  up_to_some limit h = leb-true 1 v (and_left _ (leb v limit) (judged_true _ _ h))
 
 -- Nothing is left of a mask after a shift by k exactly where it has no bit of k or more.
 module _ (m k : ℕ) where

@@ -70,7 +70,7 @@ impl Cursor {
         if self.left(s) < 2 {
             return self.refuse(Reason::Ended);
         }
-        let word = u16::from(s[at]) * 256 + u16::from(s[at + 1]);
+        let word = u16::from_be_bytes([s[at], s[at + 1]]);
         Ok((word, Cursor { at: at + 2 }))
     }
 

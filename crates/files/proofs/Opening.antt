@@ -1,28 +1,24 @@
 -- One law for each way out: a file turns the call away, or all of them are there.
 use Prim.Native.Nat.{ℕ, ◌-◌}
-use mathlib.Core.Path.{◌≡◌, refl, sym, ap, subst, ◌∙◌}
+use mathlib.Core.Path.{◌≡◌, refl, ap, subst, ◌∙◌}
 use mathlib.Core.List.{List}
 use lib.ListN.{get_or, take}
-use borrow.Author.Rules.{rules}
 use mir.Syntax.{w8}
 use mir.Val.{Fits}
-use Rattle.std.proofs.Common.{Result, Ok, Err}
+use Rattle.std.proofs.Common.{Ok, Err}
 use Rattle.meaning.specs.declared.Element.{Element}
 use Rattle.meaning.specs.declared.Graph.{Graph}
-use Rattle.meaning.specs.declared.Operation.{Operation}
 use Rattle.meaning.specs.declared.Program.{Program}
 use Rattle.meaning.specs.declared.Refusal.{Refusal}
 use Rattle.meaning.specs.Limits.{element_limit, query_limit}
-use Rattle.meaning.specs.Graphs.{LegalGraph}
 use Rattle.meaning.specs.Documents.{Accepted}
 use Rattle.meaning.specs.Queries.{XPath}
 use Rattle.meaning.specs.Inside.Records.{program_of, operations_in, Numbered}
 use Rattle.fields.specs.Read.{Read, got, refused, bind, mapped}
 use Rattle.fields.specs.Inside.Outcomes.{file_of}
-use Rattle.fields.proofs.Formats.{bind_out}
-use Rattle.fields.proofs.Outcomes.{mapped_turned, mapped_held}
+use Rattle.fields.proofs.Outcomes.{mapped_held}
 use Rattle.elements.specs.Inside.Keeping.{Keeps}
-use Rattle.elements.proofs.Keeping.{kept_away, kept_there}
+use Rattle.elements.proofs.Keeping.{kept_there}
 use Rattle.graph.specs.Gra.{graph_file}
 use Rattle.graph.proofs.Known.{graph_turned, graph_held, graph_legal}
 use Rattle.tre.specs.Tre.{document_file}
@@ -32,7 +28,7 @@ use Rattle.edg.proofs.File.{tables_read_lem}
 use Rattle.query.specs.Qry.{query_file}
 use Rattle.rel.specs.Rel.{program_file}
 use Rattle.program.proofs.Known.{program_held, program_legal}
-use Rattle.files.proofs.Handed.{under_got, under_out, then_got}
+use Rattle.files.proofs.Handed.{under_got, under_out}
 use Rattle.files.specs.Inside.Opens.{Opens, OfElements, OfQuery, OfProgram, OfTablesThenQuery, OfTablesThenProgram}
 use Rattle.files.specs.Files.{under, followed_by, document_under, tables_under, query_under, program_under, tables_then_query, tables_then_program}
 use Rattle.files.specs.declared.Opened.{Opened}

@@ -3,7 +3,6 @@
 
 ghost use Rattle.std.specs.Prelude.{◌≡◌, length};
 ghost use Rattle.meaning.specs.Limits.{element_limit};
-ghost use Rattle.elements.specs.Inside.Keeping.{blank_places};
 ghost use Rattle.files.specs.Inside.Opens.{Opens, OfElements, OfQuery, OfProgram, OfTablesThenQuery, OfTablesThenProgram};
 ghost use Rattle.files.specs.Files.{document_under, tables_under, query_under, program_under, tables_then_query, tables_then_program};
 
@@ -47,7 +46,7 @@ pub fn document(gra: &[u8], tre: &[u8], kept: &mut [Element]) -> Result<Opened, 
 }
 
 pub fn tables(gra: &[u8], edg: &[u8], kept: &mut [Element]) -> Result<Opened, Refusal>
-    requires { kept.old ≡ blank_places element_limit }
+    requires { length kept.old ≡ element_limit }
     ensures { Opens (tables_under gra.now edg.now) result (OfElements kept.new) }
 {
     let graph = graph::read(gra)?;
@@ -77,7 +76,7 @@ pub fn tables_then_query(
     qry: &[u8],
     kept: &mut [Element],
 ) -> Result<Opened, Refusal>
-    requires { kept.old ≡ blank_places element_limit }
+    requires { length kept.old ≡ element_limit }
     ensures { Opens (tables_then_query gra.now edg.now qry.now) result (OfTablesThenQuery kept.new) }
 {
     let opened = tables(gra, edg, kept)?;
@@ -91,7 +90,7 @@ pub fn tables_then_program(
     rel: &[u8],
     kept: &mut [Element],
 ) -> Result<Runnable, Refusal>
-    requires { kept.old ≡ blank_places element_limit }
+    requires { length kept.old ≡ element_limit }
     ensures { Opens (tables_then_program gra.now edg.now rel.now) result (OfTablesThenProgram kept.new) }
 {
     let Opened { graph, count } = tables(gra, edg, kept)?;

@@ -7,10 +7,7 @@ ghost use Rattle.meaning.specs.Sets.{bit, mask};
 ghost use Rattle.meaning.specs.Graphs.{child_kind, reachable, live};
 ghost use Rattle.meaning.specs.Translation.{image};
 
-use meaning::{Graph, KINDS, TYPES};
-
-// The kind of the document node.
-const DOCUMENT: usize = 16;
+use meaning::{DOCUMENT, Graph, KINDS, TYPES};
 
 // Whether the kind is in the set.
 #[tactic(auto, using(meaning::proofs::Bits::bit_shifted))]

@@ -11,8 +11,8 @@ use std::io;
 // The text is inside the buffer, as the contract of the call that wrote it says; to ask once more spares main a contract of
 // its own.
 fn print_text(rt: &impl Print, text: &[u8], length: usize) -> io::Result<()> {
-    if length <= text.len() {
-        rt.write_all(&text[..length])?;
+    if let Some(written) = text.get(..length) {
+        rt.write_all(written)?;
     }
     Ok(())
 }
@@ -47,15 +47,15 @@ fn listed(gra: &[u8], edg: &[u8], qry: &[u8], text: &mut [u8], work: &mut [u8]) 
 // No file of 1,024 bytes is accepted: a graph has at most 39, tables 530, a query fewer than 78. So a longer file is judged
 // by its first 1,024 bytes as the whole of it would be.
 fn main(rt: HostRuntime) {
-    let mut gra = [0u8; 1024];
-    let g = load(&rt, b"graph.gra", &mut gra);
-    let mut edg = [0u8; 1024];
-    let e = load(&rt, b"tables.edg", &mut edg);
-    let mut qry = [0u8; 1024];
-    let q = load(&rt, b"query.qry", &mut qry);
+    let mut room = [0u8; 1024];
+    let gra = load(&rt, b"graph.gra", &mut room);
+    let mut room = [0u8; 1024];
+    let edg = load(&rt, b"tables.edg", &mut room);
+    let mut room = [0u8; 1024];
+    let qry = load(&rt, b"query.qry", &mut room);
     let mut listing = [0u8; TEXT];
     let mut work = [0u8; WORK];
-    let answer = listed(&gra[..g], &edg[..e], &qry[..q], &mut listing, &mut work);
+    let answer = listed(gra, edg, qry, &mut listing, &mut work);
     // Whether the output took it or not, the program ends with status 0.
     let _ = print(&rt, answer, &listing);
 }

@@ -1,7 +1,7 @@
 // Files and arguments, as the programs take them.
 #![tactic(auto)]
 
-ghost use Rattle.std.specs.Prelude.{◌≡◌, ◌≤◌, length, take};
+ghost use Rattle.std.specs.Prelude.{◌≤◌, length};
 
 use std::env::{Env, FillError};
 use std::fs;
@@ -24,24 +24,25 @@ fn fill<R: Read>(reader: &mut R, buffer: &mut [u8]) -> usize
 }
 
 // What the file holds from its start on, up to the buffer's length. One that is missing or can't be read counts as empty.
-pub fn load<R: Files>(rt: &R, name: &[u8], buffer: &mut [u8]) -> usize
-    ensures inside { result ≤ length buffer.new }
-    ensures prefix { result ≡ length (take result buffer.new) }
+pub fn load<'a, R: Files>(rt: &R, name: &[u8], buffer: &'a mut [u8]) -> &'a [u8]
+    ensures { length result.now ≤ length buffer.old }
 {
     let Ok(path) = str::from_utf8(name) else {
-        return 0;
+        return &[];
     };
-    match fs::open(rt, path) {
-        Ok(mut file) => fill(&mut file, buffer),
-        Err(_) => 0,
-    }
+    let Ok(mut file) = fs::open(rt, path) else {
+        return &[];
+    };
+    let n = fill(&mut file, buffer);
+    &buffer[..n]
 }
 
-// An argument, and how long it is; one that is missing or too long counts as empty.
-pub fn argument(rt: &impl Env, at: usize, buffer: &mut [u8]) -> usize
-    ensures { result ≤ length buffer.new }
+// An argument; one that is missing or too long counts as empty.
+pub fn argument<'a>(rt: &impl Env, at: usize, buffer: &'a mut [u8]) -> &'a [u8]
+    ensures { length result.now ≤ length buffer.old }
 {
-    rt.arg(at, buffer).unwrap_or(0)
+    let n = rt.arg(at, buffer).unwrap_or(0);
+    &buffer[..n]
 }
 
 // Whether there is such an argument; the list of them ends at the first that is missing.

@@ -14,13 +14,13 @@ ghost use Rattle.meaning.specs.Inside.Records.{operations_in};
 ghost use Rattle.masks.specs.Inside.Pairs.{image_of, LegalUnder};
 ghost use Rattle.masks.specs.Announcement.{announcement, rel_of};
 
-use meaning::{Graph, KINDS, Operation, Program, STEPS};
+use meaning::{Graph, KINDS, Operation, Program, STEPS, TYPES};
 use std::array;
 
 // The set of all kinds.
-const EVERY: u32 = 0x1FFFF;
+const EVERY: u32 = (1 << KINDS) - 1;
 // The set of all kinds but the document node's.
-const EVERY_TYPE: u32 = 0xFFFF;
+const EVERY_TYPE: u32 = (1 << TYPES) - 1;
 
 // What a step may join: bit B of mask A is set for the pair of kinds (A, B).
 #[repr(C)]

@@ -123,17 +123,7 @@ bit_or_lem = bitwise bit_or max ◌||◌ or_step (λ x y p q. omega arith) (by_d
 pub bit_and_lem : (k a b : ℕ) → bit (bit_and a b) k ≡ bit a k && bit b k
 bit_and_lem = bitwise bit_and min ◌&&◌ and_step (λ x y p q. omega arith) (by_digits _ refl refl refl refl)
 
-bit_power : (k i : ℕ) → bit (1 * 2 ^ k) i ≡ eqb k i
-unfolding bit
-bit_power zero zero = refl
-bit_power zero (suc i) = bit_none i ∙ sym (eqb-zero-suc i)
-bit_power (suc k) zero = ap (λ (x : ℕ). eqb x 1) (shifted_even 1 k) ∙ sym (eqb-suc-zero k)
-bit_power (suc k) (suc i) = ap (λ (m : ℕ). bit m i) (shifted_half 1 k) ∙ bit_power k i ∙ sym (eqb-suc-suc k i)
-
--- the bits of 1 << k
-pub bit_single : (k i : ℕ) → k < 32 → bit (1 * 2 ^ k % 2 ^ 32) i ≡ eqb k i
-bit_single k i l = ap (λ (m : ℕ). bit m i) (shl_exact 1 k 32 (omega arith) (omega arith)) ∙ bit_power k i
-
+-- 2 ^ m is above m
 below_power : (m : ℕ) → m < 2 ^ m
 below_power zero = omega arith
 below_power (suc m) = omega (arith, below_power m)

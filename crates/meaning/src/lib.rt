@@ -10,10 +10,14 @@ pub const KINDS: usize = 17;
 // Types are numbered below this.
 pub const TYPES: usize = 16;
 
+// The kind of the document node.
+pub const DOCUMENT: usize = TYPES;
+
 // Steps of a program are numbered below this.
 pub const STEPS: usize = 24;
 
-// A graph of k types: bit t of children[s] is set when type t may be a child of type s. The masks from k on are 0.
+// A graph of k types: bit t of children[s] is set when type t may be a child of type s. The masks from k on are 0: an
+// array of fixed size, since there is no heap.
 #[derive(Clone, Copy)]
 pub struct Graph {
     pub k: u8,
@@ -66,7 +70,7 @@ pub struct Step {
     pub operation: Operation,
 }
 
-// A program of count steps, step s at place s.
+// A program of count steps, step s at place s of an array of fixed size, since there is no heap.
 #[derive(Clone, Copy)]
 pub struct Program {
     pub count: usize,
@@ -96,7 +100,7 @@ pub struct Refusal {
     pub reason: Reason,
 }
 
-// What a call answers: 0 and a count, or the number of a reason and 0.
+// What a call answers: 0 and a count, or the number of a reason and 0. C is handed it; inside, a `Result` says the same.
 #[repr(C)]
 #[derive(Clone, Copy)]
 pub struct Answer {

@@ -45,6 +45,7 @@ fn read_y(s: &[u8], c: Cursor, layout: Layout, number: u8) -> Field<u8>
     match layout {
         Layout::Zeros | Layout::Single => c.byte_below(s, 1, Reason::Extra),
         Layout::Pair => c.byte_below(s, number, Reason::Operand),
+        // x is a word here, and y has no byte to read.
         Layout::Number | Layout::Mask => Ok((0, c)),
     }
 }

@@ -46,19 +46,19 @@ fn print(rt: &impl Print, name: &[u8], answer: Answer) -> io::Result<()> {
 
 // The buffers are longer than any file among the vectors.
 fn judge(rt: &(impl Files + Print), graph: &[u8], name: &[u8]) -> io::Result<()> {
-    let mut gra = [0u8; 1024];
-    let g = load(rt, graph, &mut gra);
-    let mut file = [0u8; 1024];
-    let n = load(rt, name, &mut file);
-    print(rt, name, answer(kind_of(name), &gra[..g], &file[..n]))
+    let mut room = [0u8; 1024];
+    let gra = load(rt, graph, &mut room);
+    let mut room = [0u8; 1024];
+    let file = load(rt, name, &mut room);
+    print(rt, name, answer(kind_of(name), gra, file))
 }
 
 fn judge_pair(rt: &(impl Env + Files + Print), first: usize, second: usize) -> io::Result<()> {
-    let mut graph = [0u8; 64];
-    let g = argument(rt, first, &mut graph);
-    let mut name = [0u8; 64];
-    let n = argument(rt, second, &mut name);
-    judge(rt, &graph[..g], &name[..n])
+    let mut room = [0u8; 64];
+    let graph = argument(rt, first, &mut room);
+    let mut room = [0u8; 64];
+    let name = argument(rt, second, &mut room);
+    judge(rt, graph, name)
 }
 
 // The arguments are counted from 1; argument 0 is the program's own name.

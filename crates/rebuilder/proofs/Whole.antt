@@ -4,7 +4,6 @@ use mathlib.Core.List.{List}
 use mathlib.Core.Path.{◌≡◌}
 use native.Mathlib.Omega.{arith}
 use lib.ListN.{length}
-use Rattle.meaning.specs.declared.Answer.{Answer}
 use Rattle.meaning.specs.declared.Element.{Element}
 use Rattle.meaning.specs.declared.Reason.TheVariants.{Room}
 use Rattle.fields.specs.Write.{header_of}
@@ -21,8 +20,8 @@ module _ {es : List Element} (held : Held es) where
   file_length : length (document_bytes es) ≡ length_of_document (length es)
   file_length = document_length held.accepted
 
-  pub no_room : {a : Answer} (out : List ℕ) → length out < length_of_document (length es) → a ≡ turned_away (record { reason = Room }) → Leaves (stored (document_bytes es) out) a out
-  no_room out l e = rw e (stored_none (document_bytes es) out (omega (arith, file_length)))
+  pub no_room : (out : List ℕ) → length out < length_of_document (length es) → Leaves (stored (document_bytes es) out) (turned_away (record { reason = Room })) out
+  no_room out l = stored_none (document_bytes es) out (omega (arith, file_length))
 
   module _ {old mid : Writer} (start : old.at ≡ 0) (l : length_of_document (length es) ≤ length old.out.now) (header : Wrote (header_of 0x54 0x52 0x45 1) old mid) where
     pub tokens_fit : TokensFit es (tokens_in es) mid
@@ -37,5 +36,5 @@ module _ {es : List Element} (held : Held es) where
       pub length_fits : new.at < 65536
       length_fits = omega (arith, all_written.behind, file_length, held.accepted.most_elements)
 
-      pub all_stored : {a : Answer} → a ≡ accepted new.at → Leaves (stored (document_bytes es) old.out.now) a new.out.now
-      all_stored e = rw e (stored_all start (omega (arith, file_length)) all_written)
+      pub all_stored : Leaves (stored (document_bytes es) old.out.now) (accepted new.at) new.out.now
+      all_stored = stored_all start (omega (arith, file_length)) all_written

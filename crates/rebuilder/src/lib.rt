@@ -4,10 +4,11 @@
 ghost use Rattle.std.specs.Prelude.{◌+◌, ◌≤◌, length};
 ghost use Rattle.tre.specs.Tre.{open_of, document_bytes};
 ghost use Rattle.writing.specs.Lent.{Leaves, stored};
+ghost use Rattle.writing.specs.Inside.Made.{answer_for};
 ghost use Rattle.writing.specs.Inside.Wrote.{Wrote};
 ghost use Rattle.rebuilder.specs.Inside.TokensFit.{Held, closes_after, tokens_in, TokensFit};
 
-use meaning::{Answer, Element, Reason};
+use meaning::{Element, Reason, Refusal};
 use writing::Writer;
 
 // Closes what the element that follows does not stand in: from the last one opened up to the next one's parent, which stays
@@ -54,15 +55,17 @@ fn write_tokens(elements: &[Element], w: &mut Writer<'_>)
 // Writes the document of the elements, where there is room for it, and answers its length. Each element takes five bytes: four
 // that open it, and its close.
 #[tactic(auto, using(crate::proofs::Whole::no_room))]
-pub fn write(elements: &[Element], out: &mut [u8]) -> Answer
+pub fn write(elements: &[Element], out: &mut [u8]) -> Result<u32, Refusal>
     requires { Held elements.now }
-    ensures { Leaves (stored (document_bytes elements.now) out.old) result out.new }
+    ensures { Leaves (stored (document_bytes elements.now) out.old) (answer_for result) out.new }
 {
     if out.len() < 5 + 5 * elements.len() {
-        return writing::refused(Reason::Room);
+        return Err(Refusal {
+            reason: Reason::Room,
+        });
     }
     let mut w = Writer { out, at: 0 };
     w.header(b'T', b'R', b'E', 1);
     write_tokens(elements, &mut w);
-    writing::accepted(w.at as u32)
+    Ok(w.at as u32)
 }

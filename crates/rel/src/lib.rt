@@ -56,6 +56,7 @@ fn laid(code: u8, number: u16, a: u8, b: u8) -> [u8; 3]
     }
 }
 
+// Zeros stand for what a layout does not use: a step's bytes of no use are 0 in the file.
 pub fn step_bytes(o: Operation) -> [u8; 3]
     ensures { result ≡ step_bytes o }
 {

@@ -22,9 +22,9 @@ use Rattle.meaning.proofs.Views.{element_there, parent_element}
 use Rattle.rows.specs.Inside.Rows.{rows_at, OthersStay, Next}
 use Rattle.rows.proofs.Cases.{by_equal}
 use Rattle.rows.proofs.Searches.{some_below}
-use Rattle.rooms.specs.declared.row.Room.{Room}
-use Rattle.rooms.specs.declared.room.Test.{Test}
-use Rattle.rooms.specs.declared.room.Test.TheVariants.{Always, Text, Related}
+use Rattle.rooms.specs.declared.room.Room.{Room}
+use Rattle.rooms.specs.declared.relations.Test.{Test}
+use Rattle.rooms.specs.declared.relations.Test.TheVariants.{Always, Text, Related}
 use Rattle.rooms.specs.Inside.Rooms.{columns, added, passing, Testable, RoomMade}
 use Rattle.rooms.specs.Inside.FitToRun.{Nodes}
 use Rattle.rooms.proofs.Changes.{columns_none, columns_all}

@@ -5,7 +5,6 @@ use mathlib.Core.Bool.{Bool, false, ◌&&◌, ◌||◌, and-false, or-false, con
 use mathlib.Core.List.{List}
 use mathlib.Core.Logic.{inl, inr}
 use native.Mathlib.Omega.{arith}
-use borrow.Author.Rules.{rules}
 use borrow.Author.Tests.{eq-eqb, ne_eqb, lt-ltb, le-ltb}
 use lib.Dec.{eqb, ltb}
 use borrow.Rule.Slice.PartMut.{put_mid}
@@ -162,5 +161,3 @@ module _ (width : ℕ) where
           rows = λ v x. k.rows v x ∙ ap (λ (t : Bool). t || (there && (eqb u v && eqb w x))) (m.rows v x) ∙ column_next r u w there h v x;
           others = k.others;
         }
-
-pub ruleset row_laws = (row_got, row_written, row_put, row_first, rules)

@@ -25,9 +25,9 @@ use Rattle.rows.specs.declared.Mix.TheVariants.{Either, Both as Shared, First}
 use Rattle.rows.specs.Inside.Rows.{mixes, rows_at, mixed_rows}
 use Rattle.rows.proofs.Cases.{by_order}
 use Rattle.rows.proofs.Rows.{row_order}
-use Rattle.rooms.specs.declared.row.Room.{Room}
-use Rattle.rooms.specs.declared.room.Test.{Test}
-use Rattle.rooms.specs.declared.room.Test.TheVariants.{Always, Text as Texts, Related}
+use Rattle.rooms.specs.declared.room.Room.{Room}
+use Rattle.rooms.specs.declared.relations.Test.{Test}
+use Rattle.rooms.specs.declared.relations.Test.TheVariants.{Always, Text as Texts, Related}
 use Rattle.rooms.specs.Inside.Rooms.{up_to, columns, passing, Places, Testable, RoomMade, Closable}
 use Rattle.rooms.specs.Inside.Steps.{rooms_in, Makeable}
 use Rattle.rooms.proofs.Changes.{up_to_all, columns_all}

@@ -18,8 +18,8 @@ use Rattle.rows.specs.declared.Mix.TheVariants.{Both}
 use Rattle.rows.specs.Inside.Rows.{in_row, Bits, including, gathered, mixes, rows_at, Next, mixed_rows}
 use Rattle.rows.proofs.Searches.{some_below}
 use Rattle.rows.specs.declared.Row.{Row}
-use Rattle.rooms.specs.declared.room.Way.{Way}
-use Rattle.rooms.specs.declared.room.Way.TheVariants.{Mixed, Joined}
+use Rattle.rooms.specs.declared.relations.Way.{Way}
+use Rattle.rooms.specs.declared.relations.Way.TheVariants.{Mixed, Joined}
 use Rattle.rooms.specs.Inside.Rooms.{RowWidth, up_to, changed, starting, combined, Places, RoomMade}
 use Rattle.rooms.proofs.Changes.{up_to_none, one_more}
 use Rattle.rooms.proofs.Rooms.{room_on, made_as, made_none, made_after, operands_kept, places_kept, row_more}

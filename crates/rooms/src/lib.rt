@@ -6,18 +6,19 @@ ghost use Rattle.meaning.specs.Limits.{small, room_bytes};
 ghost use Rattle.meaning.specs.Documents.{view};
 ghost use Rattle.meaning.specs.Operations.{rows};
 ghost use Rattle.meaning.specs.Inside.Records.{operations_in};
+ghost use Rattle.writing.specs.Inside.Made.{answer_for};
 ghost use Rattle.rooms.specs.Layout.{work_byte, overwritten};
 ghost use Rattle.rooms.specs.Inside.Rooms.{RoomMade};
 ghost use Rattle.rooms.specs.Inside.FitToRun.{FitToRun};
 ghost use Rattle.rooms.specs.Inside.Steps.{rooms_in, Makeable};
 ghost use Rattle.rooms.specs.Run.{performed, Gives};
 
+mod relations;
 mod room;
-mod row;
 
-use crate::room::Test;
-use crate::row::Room;
-use meaning::{Answer, Element, Operation, Program, Reason, Step};
+use crate::relations::Test;
+use crate::room::Room;
+use meaning::{Element, Operation, Program, Reason, Refusal, Step};
 use rows::Mix;
 
 // The room of the step with this number.
@@ -60,20 +61,29 @@ fn perform(work: &mut [u8], elements: &[Element], program: &Program)
 }
 
 // Runs a program over elements. Where a buffer is too short, nothing is written to either.
-pub fn run_over(elements: &[Element], program: &Program, out: &mut [u8], work: &mut [u8]) -> Answer
+pub fn run_over(
+    elements: &[Element],
+    program: &Program,
+    out: &mut [u8],
+    work: &mut [u8],
+) -> Result<u32, Refusal>
     requires { FitToRun elements.now program.now }
-    ensures { Gives (performed (view elements.now) (operations_in program.now) out.old work.old) result out.new work.new }
+    ensures { Gives (performed (view elements.now) (operations_in program.now) out.old work.old) (answer_for result) out.new work.new }
 {
     let size = elements.len() + 1;
     if out.len() < size {
-        return writing::refused(Reason::Room);
+        return Err(Refusal {
+            reason: Reason::Room,
+        });
     }
     // The rooms end where one more would start.
     if work.len() < Room::of(program.count).base() {
-        return writing::refused(Reason::Room);
+        return Err(Refusal {
+            reason: Reason::Room,
+        });
     }
     perform(work, elements, program);
     let selected = Room::of(program.count - 1).read(work, 0);
     selected.list(size, out);
-    writing::accepted(selected.count())
+    Ok(selected.count())
 }

@@ -1,175 +1,85 @@
-// The relations that a room can hold. A room is made of a document or of rooms that stand before it.
-ghost use Rattle.std.specs.Prelude.{◌≡◌, ◌+◌, ◌≤◌, ◌<◌, length, []};
-ghost use Rattle.meaning.specs.declared.Operation.TheVariants.{Table};
+// What a room of the work area is: where it starts, and its rows.
+ghost use Rattle.std.specs.Prelude.{◌≡◌, ◌+◌, ◌*◌, ◌≤◌, ◌<◌, length};
 ghost use Rattle.meaning.specs.Limits.{small, row_bits, room_bytes};
-ghost use Rattle.meaning.specs.Sets.{bit};
-ghost use Rattle.meaning.specs.Inside.Diagonal.{diagonal};
-ghost use Rattle.meaning.specs.Relations.{nothing, join, closure};
-ghost use Rattle.meaning.specs.Documents.{view};
-ghost use Rattle.meaning.specs.Operations.{rows};
-ghost use Rattle.rows.specs.Inside.Rows.{in_row, Bits, rows_at, mixed_rows};
-ghost use Rattle.rooms.specs.Inside.FitToRun.{Nodes};
-ghost use Rattle.rooms.specs.Inside.Rooms.{up_to, columns, starting, passing, combined, Places, Testable, RoomMade, TakenIn, Swept, Closable};
+ghost use Rattle.meaning.specs.Relations.{nothing};
+ghost use Rattle.rows.specs.Inside.Rows.{in_row, rows_at, gathered, Bits, Next};
+ghost use Rattle.rooms.specs.Inside.Rooms.{changed, added, RoomMade};
 
-use crate::row::{BITS, Room};
-use meaning::Element;
-use rows::{Mix, Row};
+use meaning::SMALL;
+use rows::Row;
 
-// What is asked of a number: nothing, that its element has a text number, or that a room has a row from it. A closure would
-// hold the work area, which is written while the room is made.
+// The bytes of a row, its bits, and the bytes of a room, which has as many rows as a row has bits.
+const WIDTH: usize = SMALL.row;
+
+pub const BITS: usize = 8 * WIDTH;
+
+const BYTES: usize = WIDTH * BITS;
+
+// A room is named by the place where it starts. The work area goes beside it: with it in each room that is read or made, two
+// would hold it at once.
 #[derive(Clone, Copy)]
-pub enum Test {
-    Always,
-    Text(u16),
-    Related(Room),
-}
-
-// How a row is made of two rooms: the two rows of its number, mixed; or those rows of the second that the first's row names,
-// through numbers that are there. A closure would hold the work area too.
-#[derive(Clone, Copy)]
-pub enum Way {
-    Mixed(Mix),
-    Joined(Row),
-}
-
-// Whether a mask names a type.
-#[tactic(auto, using(meaning::proofs::Bits::bit_shifted))]
-fn names(mask: u16, kind: u8) -> bool
-    requires { kind < 16 }
-    ensures { result ≡ bit mask kind }
-{
-    (mask >> kind) % 2 == 1
-}
-
-impl Test {
-    fn passes(self, work: &[u8], elements: &[Element], v: usize) -> bool
-        requires { Testable small.row (length work.now) elements.now self × (v ≤ length elements.now) }
-        ensures { result ≡ passing small.row (view elements.now) work.now self v }
-    {
-        match self {
-            Test::Always => true,
-            Test::Text(number) => v != 0 && elements[v - 1].text == number,
-            Test::Related(a) => a.first(work, v) <= elements.len(),
-        }
-    }
-}
-
-impl Way {
-    // The row of v in a room that is made of rooms a and b.
-    fn row(self, work: &[u8], a: Room, b: Room, v: usize) -> Row
-        requires { (a.base + room_bytes small.row ≤ length work.now) × (b.base + room_bytes small.row ≤ length work.now) × (v < row_bits small.row) }
-        ensures { Bits result.words (combined (row_bits small.row) self (rows_at small.row work.now a.base) (rows_at small.row work.now b.base) v) }
-    {
-        let left = a.read(work, v);
-        match self {
-            Way::Mixed(how) => left.mixed(how, b.read(work, v)),
-            Way::Joined(there) => b.gather(work, left.mixed(Mix::Both, there), Row::empty()),
-        }
-    }
+pub struct Room {
+    base: usize,
 }
 
 impl Room {
-    // TABLE: each element whose type the mask names, from its parent.
-    pub fn table(self, work: &mut [u8], elements: &[Element], mask: u16)
-        requires { (self.base + room_bytes small.row ≤ length work.old) × Nodes elements.now }
-        ensures { RoomMade small.row work.old work.new self.base (rows (view elements.now) [] (Table mask)) }
+    // The room of a step: each stands behind the one before.
+    pub fn of(step: usize) -> Room
+        requires { step < 256 }
+        ensures { result.base ≡ room_bytes small.row * step }
     {
-        self.clear(work);
-        for (i, element) in elements.iter().enumerate() {
-            let there = names(mask, element.kind);
-            self.put(work, usize::from(element.parent), i + 1, there);
-        }
+        Room { base: BYTES * step }
     }
 
-    // SELF, TEXT, HAS: each node that passes a test, to itself.
-    pub fn diagonal(self, work: &mut [u8], elements: &[Element], test: Test)
-        requires { (self.base + room_bytes small.row ≤ length work.old) × Testable small.row self.base elements.now test }
-        ensures { RoomMade small.row work.old work.new self.base (columns (length elements.now + 1) (diagonal (passing small.row (view elements.now) work.old test))) }
+    pub fn base(self) -> usize
+        ensures { result ≡ self.base }
     {
-        self.clear(work);
-        for v in 0..elements.len() + 1 {
-            let there = test.passes(work, elements, v);
-            self.put(work, v, v, there);
-        }
+        self.base
     }
 
-    // The numbers below size from which the room has a row.
-    fn starts(self, work: &[u8], size: usize) -> Row
-        requires { (self.base + room_bytes small.row ≤ length work.now) × (size ≤ row_bits small.row) }
-        ensures { Bits result.words (starting (row_bits small.row) size (rows_at small.row work.now self.base)) }
+    // No rows.
+    pub fn clear(self, work: &mut [u8])
+        requires { self.base + room_bytes small.row ≤ length work.old }
+        ensures { RoomMade small.row work.old work.new self.base nothing }
     {
-        let mut all = Row::empty();
-        for v in 0..size {
-            all = all.with(v, self.first(work, v) < BITS);
-        }
-        all
+        work[self.base..self.base + BYTES].fill(0);
     }
 
-    // Rooms a and b, combined row by row.
-    fn combine(self, work: &mut [u8], a: Room, b: Room, size: usize, way: Way)
-        requires { Places small.row (length work.old) self.base a.base b.base size }
-        ensures { RoomMade small.row work.old work.new self.base (up_to size (combined (row_bits small.row) way (rows_at small.row work.old a.base) (rows_at small.row work.old b.base))) }
+    pub fn read(self, work: &[u8], v: usize) -> Row
+        requires { (self.base + room_bytes small.row ≤ length work.now) × (v < row_bits small.row) }
+        ensures { Bits result.words (rows_at small.row work.now self.base v) }
     {
-        self.clear(work);
-        for v in 0..size {
-            let made = way.row(work, a, b, v);
-            self.write(work, v, made);
-        }
+        Row::read(work, rows::place(self.base, v, WIDTH))
     }
 
-    // UNION, AND, DIFF.
-    pub fn mix(self, work: &mut [u8], a: Room, b: Room, size: usize, how: Mix)
-        requires { Places small.row (length work.old) self.base a.base b.base size }
-        ensures { RoomMade small.row work.old work.new self.base (up_to size (mixed_rows how (rows_at small.row work.old a.base) (rows_at small.row work.old b.base))) }
+    pub fn write(self, work: &mut [u8], v: usize, row: Row)
+        requires { (self.base + room_bytes small.row ≤ length work.old) × (v < row_bits small.row) }
+        ensures { RoomMade small.row work.old work.new self.base (changed v (in_row row.words) (rows_at small.row work.old self.base)) }
     {
-        self.combine(work, a, b, size, Way::Mixed(how));
+        row.write(work, rows::place(self.base, v, WIDTH));
     }
 
-    // JOIN. Most names lead to an empty row, so those that don't are found first.
-    pub fn join(self, work: &mut [u8], a: Room, b: Room, size: usize)
-        requires { Places small.row (length work.old) self.base a.base b.base size }
-        ensures { RoomMade small.row work.old work.new self.base (up_to size (join size (rows_at small.row work.old a.base) (rows_at small.row work.old b.base))) }
+    // Puts w into the row of v, where it is to be there.
+    pub fn put(self, work: &mut [u8], v: usize, w: usize, there: bool)
+        requires { (self.base + room_bytes small.row ≤ length work.old) × (v < row_bits small.row) × (w < row_bits small.row) }
+        ensures { RoomMade small.row work.old work.new self.base (added v w there (rows_at small.row work.old self.base)) }
     {
-        let there = b.starts(work, size);
-        self.combine(work, a, b, size, Way::Joined(there));
+        rows::put(work, rows::place(self.base, v, WIDTH), w, there);
     }
 
-    // The row of v takes in those rows of its room that room a names for v. Whether it grew.
-    fn take_in(self, work: &mut [u8], a: Room, v: usize) -> bool
-        requires { Places small.row (length work.old) self.base a.base a.base (row_bits small.row) × (v < row_bits small.row) }
-        ensures { TakenIn small.row work.old work.new self.base a.base v result }
+    // The first number that the row of v has, or as many as a row has bits.
+    pub fn first(self, work: &[u8], v: usize) -> usize
+        requires { (self.base + room_bytes small.row ≤ length work.now) × (v < row_bits small.row) }
+        ensures { Next (row_bits small.row) (rows_at small.row work.now self.base v) 0 result }
     {
-        let before = self.read(work, v);
-        let after = self.gather(work, a.read(work, v), before);
-        self.write(work, v, after);
-        after.mixed(Mix::First, before).next(0) < BITS
+        self.read(work, v).next(0)
     }
 
-    // Each row takes in, the last first: so one sweep is enough where a row names higher numbers only. Whether another may
-    // add to it.
-    fn sweep(self, work: &mut [u8], a: Room, size: usize) -> bool
-        requires { Places small.row (length work.old) self.base a.base a.base size }
-        ensures { Swept small.row size work.old work.new self.base a.base result }
+    // A row with those rows of the room taken in that `which` names.
+    pub fn gather(self, work: &[u8], which: Row, start: Row) -> Row
+        requires { self.base + room_bytes small.row ≤ length work.now }
+        ensures { Bits result.words (gathered (row_bits small.row) (rows_at small.row work.now self.base) (in_row which.words) (in_row start.words)) }
     {
-        let mut grew = false;
-        let mut back = false;
-        for v in (0..size).rev() {
-            grew |= self.take_in(work, a, v);
-            back |= a.first(work, v) <= v;
-        }
-        grew & back
-    }
-
-    // LFP: room a, closed under one or more steps. A sweep adds a step at least, and size steps are always enough.
-    pub fn closure(self, work: &mut [u8], a: Room, size: usize)
-        requires { Closable small.row work.old self.base a.base size }
-        ensures { RoomMade small.row work.old work.new self.base (closure size (rows_at small.row work.old a.base)) }
-    {
-        self.mix(work, a, a, size, Mix::Either);
-        for _ in 1..size {
-            if !self.sweep(work, a, size) {
-                return;
-            }
-        }
+        start.gather(work, self.base, which)
     }
 }

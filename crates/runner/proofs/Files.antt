@@ -4,7 +4,6 @@ use Rattle.std.proofs.Common.{Ok}
 use lib.ListN.{length, take}
 use mathlib.Core.Path.{◌≡◌}
 use mathlib.Core.List.{List}
-use borrow.Author.Rules.{rules}
 use Rattle.meaning.specs.declared.Answer.{Answer}
 use Rattle.meaning.specs.declared.Element.{Element}
 use Rattle.meaning.specs.declared.Graph.{Graph}
@@ -40,9 +39,6 @@ module _ (gra edg rel : List ℕ) where
   run_away out work h = rw (mapped_refused to_run h)
 
   module _ (kept : List Element) (o : Runnable) (p : Opens (tables_then_program gra edg rel) (Ok o) (OfTablesThenProgram kept)) where
-    pub run_room : o.count ≤ length kept
-    run_room = let (x, n, q, w) = p in w.elements.room
-
     pub run_ready : FitToRun (take o.count kept) o.program
     run_ready = let (x, n, q, w) = p in ready x.0 w.elements.legal w.elements.accepted w.steps.lawful w.steps.whole w.steps.numbered
 

@@ -1,5 +1,4 @@
 -- What was read is ready to be run: accepted elements and a legal program, as many as are counted.
-use Prim.Native.Nat.{ℕ, ◌≤◌}
 use mathlib.Core.Path.{◌≡◌}
 use mathlib.Core.List.{List}
 use native.Mathlib.Omega.{arith}

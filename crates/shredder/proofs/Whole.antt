@@ -4,7 +4,6 @@ use mathlib.Core.List.{List}
 use mathlib.Core.Path.{◌≡◌, refl}
 use native.Mathlib.Omega.{arith}
 use lib.ListN.{length, length-append}
-use Rattle.meaning.specs.declared.Answer.{Answer}
 use Rattle.meaning.specs.declared.Element.{Element}
 use Rattle.meaning.specs.declared.Graph.{Graph}
 use Rattle.meaning.specs.declared.Reason.TheVariants.{Room}
@@ -41,8 +40,8 @@ module _ {g : Graph} {es : List Element} (held : HeldUnder g es) where
   file_length : length (tables_bytes g es) ≡ length_of_tables g.k (length es)
   file_length = tables_length held.legal held.accepted
 
-  pub no_room : {a : Answer} (out : List ℕ) → length out < length_of_tables g.k (length es) → a ≡ turned_away (record { reason = Room }) → Leaves (stored (tables_bytes g es) out) a out
-  no_room out l e = rw e (stored_none (tables_bytes g es) out (omega (arith, file_length)))
+  pub no_room : (out : List ℕ) → length out < length_of_tables g.k (length es) → Leaves (stored (tables_bytes g es) out) (turned_away (record { reason = Room })) out
+  no_room out l = stored_none (tables_bytes g es) out (omega (arith, file_length))
 
   module _ {old x y : Writer} (start : old.at ≡ 0) (l : length_of_tables g.k (length es) ≤ length old.out.now) (header : Wrote (header_of 0x45 0x44 0x47 1) old x) (counted : Wrote (byte_of g.k) x y) where
     pub tables_fit : RowsFit es (tables_of es 0 g.k) y
@@ -57,5 +56,5 @@ module _ {g : Graph} {es : List Element} (held : HeldUnder g es) where
       pub length_fits : new.at < 65536
       length_fits = omega (arith, all_written.behind, file_length, held.accepted.most_elements, held.legal.most_types)
 
-      pub all_stored : {r : Answer} → r ≡ accepted new.at → Leaves (stored (tables_bytes g es) old.out.now) r new.out.now
-      all_stored h = rw h (stored_all start (omega (arith, file_length)) all_written)
+      pub all_stored : Leaves (stored (tables_bytes g es) old.out.now) (accepted new.at) new.out.now
+      all_stored = stored_all start (omega (arith, file_length)) all_written

@@ -4,10 +4,11 @@
 ghost use Rattle.std.specs.Prelude.{◌+◌, ◌≤◌, length};
 ghost use Rattle.edg.specs.Edg.{rows_of, row_bytes, rows_bytes, table_bytes, tables_of, tables_bytes};
 ghost use Rattle.writing.specs.Lent.{Leaves, stored};
+ghost use Rattle.writing.specs.Inside.Made.{answer_for};
 ghost use Rattle.writing.specs.Inside.Wrote.{Wrote};
 ghost use Rattle.shredder.specs.Inside.RowsFit.{HeldUnder, RowsFit};
 
-use meaning::{Answer, Element, Graph, Reason};
+use meaning::{Element, Graph, Reason, Refusal};
 use writing::Writer;
 
 #[tactic(auto, using(writing::proofs::Writing::wrote_bytes_word))]
@@ -58,16 +59,18 @@ fn write_tables(k: u8, elements: &[Element], w: &mut Writer<'_>)
 // Writes the tables of the elements, where there is room for them, and answers their length: a byte for each type, and four
 // for each element.
 #[tactic(auto, using(crate::proofs::Whole::no_room))]
-pub fn write(elements: &[Element], g: Graph, out: &mut [u8]) -> Answer
+pub fn write(elements: &[Element], g: Graph, out: &mut [u8]) -> Result<u32, Refusal>
     requires { HeldUnder g elements.now }
-    ensures { Leaves (stored (tables_bytes g elements.now) out.old) result out.new }
+    ensures { Leaves (stored (tables_bytes g elements.now) out.old) (answer_for result) out.new }
 {
     if out.len() < 6 + usize::from(g.k) + 4 * elements.len() {
-        return writing::refused(Reason::Room);
+        return Err(Refusal {
+            reason: Reason::Room,
+        });
     }
     let mut w = Writer { out, at: 0 };
     w.header(b'E', b'D', b'G', 1);
     w.byte(g.k);
     write_tables(g.k, elements, &mut w);
-    writing::accepted(w.at as u32)
+    Ok(w.at as u32)
 }

@@ -7,7 +7,6 @@ use lib.ListN.{length, get_or, take, replicate, length-set, length-take}
 use Rattle.meaning.specs.declared.Element.{Element}
 use Rattle.meaning.specs.Limits.{element_limit}
 use Rattle.meaning.specs.Documents.{document_node, node}
-use Rattle.elements.specs.Inside.Keeping.{blank_places}
 use Rattle.edg.specs.declared.Row.{Row}
 use Rattle.edg.specs.Inside.GoodRow.{GoodRow}
 use Rattle.edg.proofs.Lists.{set_keeps, take_keeps, same_anywhere}
@@ -15,9 +14,9 @@ use Rattle.tables.specs.declared.Numbers.{Numbers}
 use Rattle.tables.specs.Inside.Gathered.{Gathered, gathered_in, none, put, Sound}
 
 -- the places before the first row
-pub blank_none : (kept : List Element) → kept ≡ blank_places element_limit → gathered_in kept (record { times = replicate element_limit 0; total = 0 }) ≡ none
+pub blank_none : {kept : List Element} {n : ℕ} → n ≡ element_limit → kept ≡ replicate n document_node → gathered_in kept (record { times = replicate element_limit 0; total = 0 }) ≡ none
 unfolding none
-blank_none kept e = rw e
+blank_none l e = rw (e, l)
 
 -- what is kept of no rows is sound
 pub none_sound : {c : Gathered} → c ≡ none → Sound c

@@ -7,13 +7,13 @@ ghost use Rattle.meaning.specs.Documents.{node, view, below, parent_rule, edge_r
 ghost use Rattle.fields.specs.Inside.Outcomes.{read_of};
 ghost use Rattle.fields.specs.Read.{mapped};
 ghost use Rattle.meaning.specs.declared.Reason.TheVariants.{Number};
-ghost use Rattle.elements.specs.Inside.Keeping.{blank_places, Keeps};
+ghost use Rattle.elements.specs.Inside.Keeping.{Keeps};
 ghost use Rattle.edg.specs.Inside.GoodRow.{GoodRow};
 ghost use Rattle.edg.specs.Edg.{row_rule, row_read, rows_read, count_read, tables_read, head, rows_file, ones, judge_here, element_judged, elements_judged, tables_file};
 ghost use Rattle.tables.specs.Inside.Gathered.{row_length, gathered_in, none, put, put_all, Sound, GatheredRead};
 
 use edg::Row;
-use elements::node_at;
+use elements::{DOCUMENT_NODE, node_at};
 use fields::{Cursor, Field};
 use meaning::{Element, Graph, Reason, Refusal, SMALL};
 
@@ -247,14 +247,16 @@ fn judge_numbers(times: &[u8], end: Cursor) -> Field<()>
 }
 
 // Reads the elements into places that are lent for them.
+// They are a slice whose length is asked for: an array type would ask more of callers.
 pub fn read(s: &[u8], g: Graph, kept: &mut [Element]) -> Result<usize, Refusal>
-    requires { kept.old ≡ blank_places element_limit }
+    requires { length kept.old ≡ element_limit }
     ensures { Keeps (tables_file element_limit g s.now 0) kept.new result }
 {
     let mut numbers = Numbers {
         times: [0; SMALL.elements],
         total: 0,
     };
+    kept.fill(DOCUMENT_NODE);
     let ((), last) = read_rows(s, g.k, kept, &mut numbers)?;
     let ((), end) = last.end(s)?;
     let total = numbers.total;

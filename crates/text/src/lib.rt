@@ -18,6 +18,7 @@ fn digit(n: u16) -> u8
     b'0' + (n % 10) as u8
 }
 
+// By hand, since a `Display` writes to a formatter and not into a buffer that C lends.
 #[tactic(auto, using(crate::proofs::Numbers::laws))]
 fn decimal(n: u16, w: &mut Writer<'_>)
     requires { w.old.at + length (decimal n) ≤ length w.old.out.now }
@@ -81,7 +82,7 @@ pub fn write(elements: &[Element], nodes: &[u8], out: &mut [u8]) -> usize
     w.at
 }
 
-// Writes the text of a refusal to the buffer's start, and answers where it ends.
+// Writes the text of a refusal to the buffer's start, and answers where it ends. Of a refusal a caller has only its number.
 #[tactic(auto, unfolding(crate::specs::Listing::refusal), using(crate::proofs::Decimals::five_digits))]
 pub fn refusal(number: u8, out: &mut [u8]) -> usize
     requires { refusal_limit ≤ length out.old }

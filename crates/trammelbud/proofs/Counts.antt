@@ -1,15 +1,13 @@
 -- What a reader alone answers: one law for each file.
-use Prim.Native.Nat.{ℕ, ◌-◌, ◌<◌}
-use Rattle.std.proofs.Common.{Result, Ok, Err}
-use mathlib.Core.Path.{◌≡◌, refl, sym, ap, ◌∙◌}
+use Prim.Native.Nat.{ℕ, ◌-◌}
+use Rattle.std.proofs.Common.{Ok, Err}
+use mathlib.Core.Path.{◌≡◌, sym, ap}
 use mathlib.Core.List.{List}
-use native.Mathlib.Omega.{arith}
 use lib.ListN.{length}
-use Rattle.meaning.specs.declared.Answer.{Answer}
 use Rattle.meaning.specs.declared.Element.{Element}
 use Rattle.meaning.specs.declared.Graph.{Graph}
 use Rattle.meaning.specs.declared.Refusal.{Refusal}
-use Rattle.meaning.specs.Limits.{words, query_limit}
+use Rattle.meaning.specs.Limits.{query_limit}
 use Rattle.fields.specs.Read.{Read, got, refused, mapped}
 use Rattle.fields.specs.Inside.Outcomes.{file_of}
 use Rattle.writing.specs.Lent.{accepted, turned_away}

@@ -130,5 +130,3 @@ module _ {es : List Element} {program : Program} (r : FitToRun es program × ((v
             let steps-fit = le-leb (room_bytes small.row * length (operations_in program)) (length work) enough in
             let length-is : next ≡ length (listing (view es) nodes) = text_is_lem.behind ∙ omega arith in
             rw (text_fits, steps-fit, length-is, text_is_lem.there, ap (λ x. x.work) (whole enough))
-
-pub ruleset laws = (list_short, list_refused, list_inside, list_listable, list_small, list_all, rules)

@@ -7,7 +7,6 @@ use mathlib.Core.List.{List}
 use native.Mathlib.Omega.{arith}
 use lib.Dec.{leb}
 use lib.ListN.{length, get_or, take}
-use lib.Seq.{length-take-le}
 use borrow.Author.Rules.{rules}
 use borrow.Author.Tests.{le-leb, lt-leb, leb-true, leb-false}
 use mir.Syntax.{w8}
@@ -17,6 +16,7 @@ use Rattle.meaning.specs.declared.Element.{Element}
 use Rattle.meaning.specs.declared.Graph.{Graph}
 use Rattle.meaning.specs.declared.Operation.{Operation}
 use Rattle.meaning.specs.declared.Program.{Program}
+use Rattle.meaning.specs.declared.Reason.{Reason}
 use Rattle.meaning.specs.declared.Reason.TheVariants.{Steps}
 use Rattle.meaning.specs.declared.Refusal.{Refusal}
 use Rattle.meaning.specs.Limits.{words, element_limit, step_limit}
@@ -27,7 +27,7 @@ use Rattle.meaning.specs.Inside.Records.{program_of, operations_in, Numbered}
 use Rattle.meaning.specs.Translation.{translated, step_count}
 use Rattle.meaning.proofs.Records.{program_holds, program_numbered}
 use Rattle.meaning.proofs.Theorems.{translation_is_right}
-use Rattle.fields.specs.Read.{Read, got, refused, pick, mapped}
+use Rattle.fields.specs.Read.{got, refused, pick, mapped}
 use Rattle.fields.specs.Inside.Outcomes.{file_of}
 use Rattle.query.specs.Qry.{query_file}
 use Rattle.query.proofs.File.{query_read_lem}
@@ -36,19 +36,19 @@ use Rattle.rel.specs.Rel.{program_file, program_bytes}
 use Rattle.writing.specs.Lent.{Lent, accepted, turned_away, over, lent, Leaves}
 use Rattle.writing.proofs.Puts.{over_front, over_length}
 use Rattle.writing.proofs.Stored.{stored_there}
+use Rattle.writing.proofs.Told.{same_number, some_number}
 use Rattle.files.specs.declared.Opened.{Opened}
 use Rattle.files.specs.declared.Runnable.{Runnable}
 use Rattle.files.specs.Inside.Opens.{Opens, OfElements, OfTablesThenQuery}
 use Rattle.files.specs.Files.{followed_by, tables_then_query}
 use Rattle.files.proofs.Handed.{under_out, then_out, mapped_got, mapped_refused}
-use Rattle.rooms.specs.Inside.FitToRun.{FitToRun}
 use Rattle.rooms.specs.Run.{Gives, performed}
 use Rattle.runner.proofs.Prepared.{ready}
 use Rattle.translator.specs.Inside.Translatable.{AcceptedQuery}
 use Rattle.translator.specs.Translate.{bounded_program}
 use Rattle.translator.specs.Inside.Translated.{translated_query, translated_under}
 use Rattle.translator.proofs.Checked.{file_length, translated_checked, translated_stored}
-use Rattle.trammelbud.specs.Calls.{Asked, asked, asked_or, chosen, select_of, lists, told, list_of}
+use Rattle.trammelbud.specs.Calls.{asked, asked_or, chosen, select_of, lists, told, list_of}
 use Rattle.trammelbud.specs.Inside.Parts.{Translated, Planned}
 
 -- A query that was accepted, by how many steps it takes.
@@ -80,8 +80,11 @@ module _ {g : Graph} {qry : List ℕ} (A : AcceptedQuery g qry) where
     unfolding translated_under lent
     turned many = sym l ∙ ap (λ e. lent e old) (mapped_refused program_bytes (many_steps many))
 
-    pub too_many : (a.number ≡ 0 → ⊥) → translated_query g qry ≡ refused (record { reason = Steps })
-    too_many not-zero = by_steps (λ few. absurd (not-zero (ap (λ l. l.answer.number) (written few)))) many_steps
+    pub too_many : {r : Refusal} → a ≡ turned_away r → translated_query g qry ≡ refused r
+    too_many {r} h =
+        by_steps
+        (λ few. absurd (some_number r.reason (ap (λ x. x.number) (sym h) ∙ ap (λ x. x.answer.number) (written few))))
+        (λ many. many_steps many ∙ ap (λ (x : Reason). refused (record { reason = x })) (same_number _ _ (sym (ap (λ x. x.answer.number) (turned many)) ∙ ap (λ x. x.number) h)))
 
     module _ (zero : a.number ≡ 0) where
       few : step_count A.query ≤ step_limit
@@ -189,5 +192,3 @@ module _ (gra edg qry out work : List ℕ) where
     pub list_on : Gives (lists (view (take plan.count kept)) (answer (view (take plan.count kept)) (operations_in plan.program)) (operations_in plan.program) out work) a out' work' → Gives (list_of gra edg qry out work) a out' work'
     unfolding list_of asked_or told
     list_on l = let (x, n, q, w) = p in rw (q, ← w.right, w.shown, w.steps) l
-
-pub ruleset laws = (too_many, file_inside, read_back, plan_away, plan_accepts, plan_refused, plan_made, select_away, list_away, select_on, list_on, rules)

@@ -6,6 +6,7 @@ ghost use Rattle.std.specs.Prelude.{◌≡◌};
 ghost use Rattle.writing.specs.Lent.{Leaves};
 ghost use Rattle.translator.specs.Translate.{translation};
 ghost use Rattle.convert.specs.Convert.{shredded, rebuilt};
+ghost use Rattle.writing.specs.Inside.Made.{answer_for};
 ghost use Rattle.announce.specs.Check.{check_of};
 ghost use Rattle.rooms.specs.Run.{Gives};
 ghost use Rattle.runner.specs.Run.{run_of};
@@ -16,8 +17,8 @@ mod plan;
 
 use announce::Checked;
 use elements::DOCUMENT_NODE;
-use meaning::{Answer, SMALL};
-use writing::{accepted, turned_away};
+use meaning::{Answer, Refusal, SMALL};
+use writing::{accepted, answer, turned_away};
 
 // A graph: how many types it has.
 pub fn tb_read_graph(gra: &[u8]) -> Answer
@@ -75,21 +76,21 @@ pub fn tb_read_program(gra: &[u8], rel: &[u8]) -> Answer
 pub fn tb_shred(gra: &[u8], tre: &[u8], out: &mut [u8]) -> Answer
     ensures { Leaves (shredded gra.now tre.now out.old) result out.new }
 {
-    convert::shred(gra, tre, out)
+    answer(convert::shred(gra, tre, out))
 }
 
 // The document of tables. `out` needs 5 + 5n bytes; the length written is the answer.
 pub fn tb_rebuild(gra: &[u8], edg: &[u8], out: &mut [u8]) -> Answer
     ensures { Leaves (rebuilt gra.now edg.now out.old) result out.new }
 {
-    convert::rebuild(gra, edg, out)
+    answer(convert::rebuild(gra, edg, out))
 }
 
 // The program of a query. `out` needs 6 bytes and 3 for each step; the length written is the answer.
 pub fn tb_translate(gra: &[u8], qry: &[u8], out: &mut [u8]) -> Answer
     ensures { Leaves (translation gra.now qry.now out.old) result out.new }
 {
-    translator::translate(gra, qry, out)
+    answer(translator::translate(gra, qry, out))
 }
 
 // What each step of a program may join: for each of 17 kinds, the set of kinds.
@@ -103,7 +104,7 @@ pub fn tb_check(gra: &[u8], rel: &[u8]) -> Checked
 pub fn tb_run(gra: &[u8], edg: &[u8], rel: &[u8], out: &mut [u8], work: &mut [u8]) -> Answer
     ensures { Gives (run_of gra.now edg.now rel.now out.old work.old) result out.new work.new }
 {
-    runner::run(gra, edg, rel, out, work)
+    answer(runner::run(gra, edg, rel, out, work))
 }
 
 // The nodes that a query selects. `out` needs n+1 bytes for them, `work` 2,048 for each step of the query's program; their
@@ -111,11 +112,7 @@ pub fn tb_run(gra: &[u8], edg: &[u8], rel: &[u8], out: &mut [u8], work: &mut [u8
 pub fn tb_select(gra: &[u8], edg: &[u8], qry: &[u8], out: &mut [u8], work: &mut [u8]) -> Answer
     ensures { Gives (select_of gra.now edg.now qry.now out.old work.old) result out.new work.new }
 {
-    let mut kept = [DOCUMENT_NODE; SMALL.elements];
-    match plan::make(gra, edg, qry, &mut kept) {
-        Ok(plan) => rooms::run_over(&kept[..plan.count], &plan.program, out, work),
-        Err(refusal) => turned_away(refusal),
-    }
+    answer(select(gra, edg, qry, out, work))
 }
 
 // The listing of the nodes that a query selects. `text` needs 13(n+2) bytes, which the longest one takes, `work` 2,048 for
@@ -123,9 +120,35 @@ pub fn tb_select(gra: &[u8], edg: &[u8], qry: &[u8], out: &mut [u8], work: &mut 
 pub fn tb_list(gra: &[u8], edg: &[u8], qry: &[u8], text: &mut [u8], work: &mut [u8]) -> Answer
     ensures { Gives (list_of gra.now edg.now qry.now text.old work.old) result text.new work.new }
 {
+    answer(listed(gra, edg, qry, text, work))
+}
+
+// The program that a query asks for, run.
+fn select(
+    gra: &[u8],
+    edg: &[u8],
+    qry: &[u8],
+    out: &mut [u8],
+    work: &mut [u8],
+) -> Result<u32, Refusal>
+    ensures { Gives (select_of gra.now edg.now qry.now out.old work.old) (answer_for result) out.new work.new }
+{
     let mut kept = [DOCUMENT_NODE; SMALL.elements];
-    match plan::make(gra, edg, qry, &mut kept) {
-        Ok(plan) => list::list(&kept[..plan.count], &plan.program, text, work),
-        Err(refusal) => turned_away(refusal),
-    }
+    let plan = plan::make(gra, edg, qry, &mut kept)?;
+    rooms::run_over(&kept[..plan.count], &plan.program, out, work)
+}
+
+// The same, and the nodes listed.
+fn listed(
+    gra: &[u8],
+    edg: &[u8],
+    qry: &[u8],
+    text: &mut [u8],
+    work: &mut [u8],
+) -> Result<u32, Refusal>
+    ensures { Gives (list_of gra.now edg.now qry.now text.old work.old) (answer_for result) text.new work.new }
+{
+    let mut kept = [DOCUMENT_NODE; SMALL.elements];
+    let plan = plan::make(gra, edg, qry, &mut kept)?;
+    list::list(&kept[..plan.count], &plan.program, text, work)
 }

@@ -4,11 +4,12 @@ ghost use Rattle.meaning.specs.Limits.{words};
 ghost use Rattle.meaning.specs.Operations.{answer};
 ghost use Rattle.meaning.specs.Inside.Records.{operations_in};
 ghost use Rattle.meaning.specs.Documents.{view};
+ghost use Rattle.writing.specs.Inside.Made.{answer_for};
 ghost use Rattle.rooms.specs.Inside.FitToRun.{FitToRun};
 ghost use Rattle.rooms.specs.Run.{Gives};
 ghost use Rattle.trammelbud.specs.Calls.{lists};
 
-use meaning::{Answer, Element, Program, Reason, SMALL};
+use meaning::{Element, Program, Reason, Refusal, SMALL};
 
 // Nodes of a document.
 const NODES: usize = SMALL.elements + 1;
@@ -20,18 +21,17 @@ pub(crate) fn list(
     program: &Program,
     out: &mut [u8],
     work: &mut [u8],
-) -> Answer
+) -> Result<u32, Refusal>
     requires { FitToRun elements.now program.now × ((v : ℕ) → (view elements.now).text v < words) }
-    ensures { Gives (lists (view elements.now) (answer (view elements.now) (operations_in program.now)) (operations_in program.now) out.old work.old) result out.new work.new }
+    ensures { Gives (lists (view elements.now) (answer (view elements.now) (operations_in program.now)) (operations_in program.now) out.old work.old) (answer_for result) out.new work.new }
 {
     if out.len() < 13 * (elements.len() + 2) {
-        return writing::refused(Reason::Room);
+        return Err(Refusal {
+            reason: Reason::Room,
+        });
     }
     let mut nodes = [0u8; NODES];
-    let ran = rooms::run_over(elements, program, &mut nodes, work);
-    if ran.number != 0 {
-        return ran;
-    }
-    let length = text::write(elements, &nodes[..ran.count as usize], out);
-    writing::accepted(length as u32)
+    let count = rooms::run_over(elements, program, &mut nodes, work)?;
+    let length = text::write(elements, &nodes[..count as usize], out);
+    Ok(length as u32)
 }

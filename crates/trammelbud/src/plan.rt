@@ -1,7 +1,6 @@
 // The program that a query asks for: translated into a file, and read from it.
-ghost use Rattle.std.specs.Prelude.{◌≡◌};
+ghost use Rattle.std.specs.Prelude.{◌≡◌, length};
 ghost use Rattle.meaning.specs.Limits.{element_limit};
-ghost use Rattle.elements.specs.Inside.Keeping.{blank_places};
 ghost use Rattle.files.specs.Inside.Opens.{Opens};
 ghost use Rattle.translator.specs.Inside.Translatable.{AcceptedQuery};
 ghost use Rattle.translator.specs.Inside.Translated.{translated_query};
@@ -9,10 +8,10 @@ ghost use Rattle.trammelbud.specs.Calls.{asked};
 ghost use Rattle.trammelbud.specs.Inside.Parts.{Translated, Planned};
 
 use files::{Opened, Runnable};
-use meaning::{Element, Graph, Program, Reason, Refusal};
+use meaning::{Element, Graph, Program, Refusal, STEPS};
 
 // The file of a program with as many steps as there may be.
-const FILE: usize = 78;
+const FILE: usize = 6 + 3 * STEPS;
 
 // The program of a query that was accepted. There is always room for its file, so too many steps are all that can be amiss.
 fn translated(g: Graph, qry: &[u8]) -> Result<Program, Refusal>
@@ -20,13 +19,8 @@ fn translated(g: Graph, qry: &[u8]) -> Result<Program, Refusal>
     ensures { Opens (translated_query g qry.now) result (Translated g) }
 {
     let mut rel = [0u8; FILE];
-    let answer = translator::write(g, qry, &mut rel);
-    if answer.number != 0 {
-        return Err(Refusal {
-            reason: Reason::Steps,
-        });
-    }
-    program::read(&rel[..answer.count as usize], g.k)
+    let length = translator::write(g, qry, &mut rel)?;
+    program::read(&rel[..length as usize], g.k)
 }
 
 pub(crate) fn make(
@@ -35,7 +29,7 @@ pub(crate) fn make(
     qry: &[u8],
     kept: &mut [Element],
 ) -> Result<Runnable, Refusal>
-    requires { kept.old ≡ blank_places element_limit }
+    requires { length kept.old ≡ element_limit }
     ensures { Opens (asked gra.now edg.now qry.now) result (Planned kept.new) }
 {
     let Opened { graph, count } = files::tables_then_query(gra, edg, qry, kept)?;

@@ -1,4 +1,5 @@
-// The public calls as C calls them: each is the library's of its name, under the same clauses.
+// The public calls as C calls them: each is the library's of its name, under the same clauses, since no crate can stand on a
+// static library.
 #![tactic(auto)]
 
 ghost use Rattle.std.specs.Prelude.{◌≡◌};

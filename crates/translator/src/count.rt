@@ -5,7 +5,7 @@ ghost use Rattle.translator.specs.Inside.Count.{fields_of, own_steps, StepsCount
 // The steps that a program may have.
 const LIMIT: u8 = meaning::STEPS as u8;
 
-// The bytes that a node has behind its code.
+// The bytes that a node has behind its code. Codes are the file's bytes.
 fn fields(code: u8) -> usize
     ensures { (result ≡ fields_of code) × (result ≤ 2) }
 {
@@ -16,7 +16,7 @@ fn fields(code: u8) -> usize
     }
 }
 
-// The steps of a node besides those of its parts: five more for //, one more for not.
+// The steps of a node besides those of its parts: five more for //, one more for not. Codes are the file's bytes.
 fn own_steps(code: u8) -> u8
     ensures { (result ≡ own_steps code) × (1 ≤ result) × (result ≤ 6) }
 {

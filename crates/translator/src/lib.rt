@@ -7,11 +7,12 @@ mod count;
 ghost use Rattle.std.specs.Prelude.{◌≡◌, ◌≤◌, ◌++◌, length};
 ghost use Rattle.fields.specs.Write.{byte_of, header_of};
 ghost use Rattle.writing.specs.Lent.{Leaves, over};
+ghost use Rattle.writing.specs.Inside.Made.{answer_for};
 ghost use Rattle.translator.specs.Inside.Translated.{translated_under};
 ghost use Rattle.translator.specs.Translate.{translation};
 ghost use Rattle.translator.specs.Inside.Translatable.{AcceptedQuery, Translatable};
 
-use meaning::{Answer, Graph, Reason};
+use meaning::{Graph, Reason, Refusal};
 use writing::Writer;
 
 // What stands before the steps: the header, and how many they are.
@@ -25,34 +26,36 @@ fn write_head(steps: u8, out: &mut [u8])
 }
 
 // The program of a query that was accepted and is not too long, where there is room for it.
-fn written(g: Graph, qry: &[u8], steps: u8, out: &mut [u8]) -> Answer
+fn written(g: Graph, qry: &[u8], steps: u8, out: &mut [u8]) -> Result<u32, Refusal>
     requires { Translatable g qry.now steps (length out.old) }
-    ensures { Leaves (translated_under g qry.now out.old) result out.new }
+    ensures { Leaves (translated_under g qry.now out.old) (answer_for result) out.new }
 {
     write_head(steps, out);
     descent::query(g, qry, out);
-    writing::accepted(6 + 3 * u32::from(steps))
+    Ok(6 + 3 * u32::from(steps))
 }
 
 // What is still judged of a query that was accepted under a graph: its steps, then the room.
-pub fn write(g: Graph, qry: &[u8], out: &mut [u8]) -> Answer
+pub fn write(g: Graph, qry: &[u8], out: &mut [u8]) -> Result<u32, Refusal>
     requires { AcceptedQuery g qry.now }
-    ensures { Leaves (translated_under g qry.now out.old) result out.new }
+    ensures { Leaves (translated_under g qry.now out.old) (answer_for result) out.new }
 {
     let Some(steps) = count::steps(qry) else {
-        return writing::refused(Reason::Steps);
+        return Err(Refusal {
+            reason: Reason::Steps,
+        });
     };
     if out.len() < 6 + 3 * usize::from(steps) {
-        return writing::refused(Reason::Room);
+        return Err(Refusal {
+            reason: Reason::Room,
+        });
     }
     written(g, qry, steps, out)
 }
 
-pub fn translate(gra: &[u8], qry: &[u8], out: &mut [u8]) -> Answer
-    ensures { Leaves (translation gra.now qry.now out.old) result out.new }
+pub fn translate(gra: &[u8], qry: &[u8], out: &mut [u8]) -> Result<u32, Refusal>
+    ensures { Leaves (translation gra.now qry.now out.old) (answer_for result) out.new }
 {
-    match files::query(gra, qry) {
-        Ok(opened) => write(opened.graph, qry, out),
-        Err(refusal) => writing::turned_away(refusal),
-    }
+    let asked = files::query(gra, qry)?;
+    write(asked.graph, qry, out)
 }

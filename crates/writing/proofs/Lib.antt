@@ -2,3 +2,4 @@ pub mod Puts
 pub mod Writing
 pub mod Stored
 pub mod Toward
+pub mod Told

@@ -4,9 +4,10 @@
 ghost use Rattle.std.specs.Prelude.{◌≡◌, ◌+◌, ◌<◌, ◌≤◌, length};
 ghost use Rattle.fields.specs.Write.{byte_of, word_of, header_of};
 ghost use Rattle.writing.specs.Lent.{accepted, turned_away};
+ghost use Rattle.writing.specs.Inside.Made.{answer_for};
 ghost use Rattle.writing.specs.Inside.Wrote.{Wrote};
 
-use meaning::{Answer, Reason, Refusal};
+use meaning::{Answer, Refusal};
 
 pub fn accepted(count: u32) -> Answer
     ensures { result ≡ accepted count }
@@ -14,7 +15,7 @@ pub fn accepted(count: u32) -> Answer
     Answer { number: 0, count }
 }
 
-// No `From`: an impl stands beside one of its types, and both are `meaning`'s.
+// No `From`: it would stand beside its types, in `meaning`, and spell out there what is defined here.
 pub fn turned_away(refusal: Refusal) -> Answer
     ensures { result ≡ turned_away refusal }
 {
@@ -24,11 +25,14 @@ pub fn turned_away(refusal: Refusal) -> Answer
     }
 }
 
-// Turned away for a reason that is no field's.
-pub fn refused(reason: Reason) -> Answer
-    ensures { result ≡ turned_away (record { reason = reason }) }
+// What is answered for what a call made: its count, or the reason why it was turned away.
+pub fn answer(made: Result<u32, Refusal>) -> Answer
+    ensures { result ≡ answer_for made }
 {
-    turned_away(Refusal { reason })
+    match made {
+        Ok(count) => accepted(count),
+        Err(refusal) => turned_away(refusal),
+    }
 }
 
 // Writes fields one behind the other into a lent buffer.

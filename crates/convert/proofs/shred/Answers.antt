@@ -1,10 +1,10 @@
--- A refusal is handed on; else what stands for the elements that are kept is written.
-use Rattle.std.proofs.Common.{rules}
+-- A refusal is handed on; else the tables of the elements that are kept are written.
+use Rattle.std.proofs.lemmas.Result.{err_from_is_err_and}
 use Rattle.convert.proofs.Conversions.{shred_away, shred_all}
 use Rattle.convert.proofs.shred.Goals as goal
 
-pub returns-in-Ok : goal.returns-in-Ok
-returns-in-Ok c = shred_all _ _ _ _ _ c.in-Ok.ensures c.write.ensures
+pub returns-in_err-graph : goal.returns-in_err-graph
+returns-in_err-graph c = let p = err_from_is_err_and c.from_residual.result c.from_residual.ensures.1 in rw (p.1, p.2) (shred_away _ _ _ c.in_err-graph.ensures)
 
-pub returns-in-Err : goal.returns-in-Err
-returns-in-Err c = rw c.turned_away.ensures (shred_away _ _ _ c.in-Err.ensures)
+pub returns : goal.returns
+returns c = shred_all _ _ _ _ _ c.in_ok-graph.ensures c.write.ensures

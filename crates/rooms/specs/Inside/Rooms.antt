@@ -8,11 +8,11 @@ use Rattle.meaning.specs.Relations.{Relation}
 use Rattle.meaning.specs.Documents.{View, is_element}
 use Rattle.rows.specs.declared.Mix.TheVariants.{First}
 use Rattle.rows.specs.Inside.Rows.{in_row, gathered, mixes, rows_at, OthersStay}
-use Rattle.rooms.specs.declared.row.Room.{Room}
-use Rattle.rooms.specs.declared.room.Test.{Test}
-use Rattle.rooms.specs.declared.room.Test.TheVariants.{Always, Text, Related}
-use Rattle.rooms.specs.declared.room.Way.{Way}
-use Rattle.rooms.specs.declared.room.Way.TheVariants.{Mixed, Joined}
+use Rattle.rooms.specs.declared.room.Room.{Room}
+use Rattle.rooms.specs.declared.relations.Test.{Test}
+use Rattle.rooms.specs.declared.relations.Test.TheVariants.{Always, Text, Related}
+use Rattle.rooms.specs.declared.relations.Way.{Way}
+use Rattle.rooms.specs.declared.relations.Way.TheVariants.{Mixed, Joined}
 
 -- a row has so many bytes: there is one size today
 abbrev pub RowWidth : ℕ → Type 0

@@ -1,13 +1,13 @@
 -- A refusal is handed on; else the program is run over the elements that are kept.
-use Rattle.std.proofs.Common.{rules}
+use Rattle.std.proofs.lemmas.Result.{err_from_is_err_and}
 use Rattle.runner.proofs.Files.{run_away, run_ready, run_on}
 use Rattle.runner.proofs.run.Goals as goal
 
+pub returns-in_err-opened : goal.returns-in_err-opened
+returns-in_err-opened c = let p = err_from_is_err_and c.from_residual.result c.from_residual.ensures.1 in rw (p.1, p.2) (run_away _ _ _ _ _ c.in_err-opened.ensures)
+
 pub run_over-requires : goal.run_over-requires
-run_over-requires c = run_ready _ _ _ _ _ c.in-Ok.ensures
+run_over-requires c = run_ready _ _ _ _ _ c.in_ok-opened.ensures
 
-pub returns-in-Ok : goal.returns-in-Ok
-returns-in-Ok c = run_on _ _ _ _ _ c.in-Ok.ensures _ _ c.run_over.ensures
-
-pub returns-in-Err : goal.returns-in-Err
-returns-in-Err c = rw c.turned_away.ensures (run_away _ _ _ _ _ c.in-Err.ensures)
+pub returns : goal.returns
+returns c = run_on _ _ _ _ _ c.in_ok-opened.ensures _ _ c.run_over.ensures

@@ -5,7 +5,7 @@ use Rattle.tables.proofs.Reader.{not_kept, read_refused, read_extra, read_repeat
 use Rattle.tables.proofs.read.Goals as goal
 
 pub read_rows-requires : goal.read_rows-requires
-read_rows-requires c = blank_none _ c.requires
+read_rows-requires c = blank_none c.requires (c.fill.ensures.after (λ y e. search rules))
 
 pub returns-in_err-last : goal.returns-in_err-last
 returns-in_err-last c = not_kept _ (search rules) (read_refused _ _ c.in_err-last.ensures.right)

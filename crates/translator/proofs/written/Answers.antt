@@ -6,4 +6,4 @@ pub query-requires : goal.query-requires
 query-requires c = start_due _ c.requires c.write_head.ensures
 
 pub returns : goal.returns
-returns c = rw (c.accepted.ensures, c.from.ensures) (written_all _ c.requires c.write_head.ensures c.query.ensures)
+returns c = rw c.from.ensures (written_all _ c.requires c.write_head.ensures c.query.ensures)

@@ -1,0 +1,6 @@
+-- One row more has taken in.
+use Rattle.rooms.proofs.Closings.{sweeps_more}
+use Rattle.rooms.proofs.room.Room.sweep.Goals as goal
+
+pub loop-v-preserved : goal.loop-v-preserved
+loop-v-preserved c = sweeps_more _ c.loop-v.invariant c.loop-v-test.true c.take_in-grew.ensures c.first.ensures

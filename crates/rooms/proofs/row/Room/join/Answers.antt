@@ -1,6 +1,0 @@
--- Only a number from which there is a row leads anywhere.
-use Rattle.rooms.proofs.Turns.{join_made}
-use Rattle.rooms.proofs.row.Room.join.Goals as goal
-
-pub returns : goal.returns
-returns c = join_made _ _ _ _ c.requires c.starts-there.ensures c.combine.ensures
