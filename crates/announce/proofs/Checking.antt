@@ -17,7 +17,8 @@ use Rattle.meaning.specs.Refused.{number_of}
 use Rattle.fields.specs.Read.{got, refused}
 use Rattle.graph.specs.Gra.{graph_file}
 use Rattle.rel.specs.Rel.{program_file}
-use Rattle.files.specs.declared.Checkable.{Checkable}
+use Rattle.meaning.specs.declared.Program.{Program}
+use Rattle.files.specs.declared.Under.{Under}
 use Rattle.files.specs.Inside.Opens.{Opens, OfProgram}
 use Rattle.files.specs.Files.{program_under}
 use Rattle.files.proofs.Handed.{under_got, mapped_got, mapped_refused}
@@ -37,12 +38,12 @@ module _ (gra rel : List ℕ) where
   unfolding check_of
   check_away h = sym (ap checked (mapped_refused _ h))
 
-  module _ (o : Checkable) (p : Opens (program_under gra rel) (Ok o) OfProgram) where
-    pub check_all : {steps : List Announced} → steps ≡ announcement o.graph (operations_in o.program) → record { number = 0; steps = steps } ≡ check_of gra rel
+  module _ (o : Under Program) (p : Opens (program_under gra rel) (Ok o) OfProgram) where
+    pub check_all : {steps : List Announced} → steps ≡ announcement o.graph (operations_in o.read) → record { number = 0; steps = steps } ≡ check_of gra rel
     unfolding check_of checked
     check_all e = let (x, n, q, w) = p in sym (ap checked (mapped_got _ q) ∙ rw (w.graph, w.steps, e))
 
-    pub check_legal : LegalUnder o.graph o.program
+    pub check_legal : LegalUnder o.graph o.read
     check_legal = let (x, n, q, w) = p in record { graph = w.legal; program = w.lawful; count = rw (← w.whole) w.lawful.most_steps; numbered = w.numbered }
 
 -- the check's answer shows what is announced for each step, and nothing past the end

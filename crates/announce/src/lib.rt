@@ -33,7 +33,7 @@ pub fn check(gra: &[u8], rel: &[u8]) -> Checked
     match files::program(gra, rel) {
         Ok(opened) => Checked {
             number: 0,
-            steps: masks::announce(opened.graph, &opened.program),
+            steps: masks::announce(opened.graph, &opened.read),
         },
         Err(refusal) => refused(refusal),
     }

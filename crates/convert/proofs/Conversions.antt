@@ -14,7 +14,7 @@ use Rattle.graph.specs.Gra.{graph_file}
 use Rattle.tre.specs.Tre.{document_file, document_bytes}
 use Rattle.edg.specs.Edg.{tables_file, tables_bytes}
 use Rattle.writing.specs.Lent.{turned_away, stored, lent, Leaves}
-use Rattle.files.specs.declared.Opened.{Opened}
+use Rattle.files.specs.declared.Under.{Under}
 use Rattle.files.specs.Inside.Opens.{Opens, OfElements}
 use Rattle.files.specs.Files.{document_under, tables_under}
 use Rattle.files.proofs.Handed.{under_got, mapped_got, mapped_refused}
@@ -29,14 +29,14 @@ module _ (gra file out : List ℕ) where
   unfolding rebuilt lent
   rebuild_away h = rw (mapped_refused (λ x. document_bytes x.1) h)
 
-  module _ (kept : List Element) (o : Opened) where
+  module _ (kept : List Element) (o : Under ℕ) where
     module _ (p : Opens (document_under gra file) (Ok o) (OfElements kept)) where
-      pub shred_all : {a : Answer} {new : List ℕ} → Leaves (stored (tables_bytes o.graph (take o.count kept)) out) a new → Leaves (shredded gra file out) a new
+      pub shred_all : {a : Answer} {new : List ℕ} → Leaves (stored (tables_bytes o.graph (take o.read kept)) out) a new → Leaves (shredded gra file out) a new
       unfolding shredded lent
       shred_all l = let (x, n, q, w) = p in rw (mapped_got (λ x. tables_bytes x.0 x.1) q, w.graph, w.elements) l
 
     module _ (p : Opens (tables_under gra file) (Ok o) (OfElements kept)) where
-      pub rebuild_all : {a : Answer} {new : List ℕ} → Leaves (stored (document_bytes (take o.count kept)) out) a new → Leaves (rebuilt gra file out) a new
+      pub rebuild_all : {a : Answer} {new : List ℕ} → Leaves (stored (document_bytes (take o.read kept)) out) a new → Leaves (rebuilt gra file out) a new
       unfolding rebuilt lent
       rebuild_all l = let (x, n, q, w) = p in rw (mapped_got (λ x. document_bytes x.1) q, w.elements) l
 

@@ -6,7 +6,7 @@ ghost use Rattle.writing.specs.Inside.Made.{answer_for};
 ghost use Rattle.convert.specs.Convert.{shredded, rebuilt};
 
 use elements::DOCUMENT_NODE;
-use files::Opened;
+use files::Under;
 use meaning::{Refusal, SMALL};
 
 // The tables of an accepted document, where there is room for them.
@@ -14,7 +14,7 @@ pub fn shred(gra: &[u8], tre: &[u8], out: &mut [u8]) -> Result<u32, Refusal>
     ensures { Leaves (shredded gra.now tre.now out.old) (answer_for result) out.new }
 {
     let mut kept = [DOCUMENT_NODE; SMALL.elements];
-    let Opened { graph, count } = files::document(gra, tre, &mut kept)?;
+    let Under { graph, read: count } = files::document(gra, tre, &mut kept)?;
     shredder::write(&kept[..count], graph, out)
 }
 
@@ -24,5 +24,5 @@ pub fn rebuild(gra: &[u8], edg: &[u8], out: &mut [u8]) -> Result<u32, Refusal>
 {
     let mut kept = [DOCUMENT_NODE; SMALL.elements];
     let opened = files::tables(gra, edg, &mut kept)?;
-    rebuilder::write(&kept[..opened.count], out)
+    rebuilder::write(&kept[..opened.read], out)
 }

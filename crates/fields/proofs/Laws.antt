@@ -2,7 +2,7 @@
 use Rattle.std.proofs.Common.{ℕ, List, Bool, leb, ◌≡◌, ◌*◌, ◌/◌, ◌^◌, ◌<◌, ◌≤◌, sym, arith, true, eqb, ltb, eq-eqb, lt-ltb, rules, w16, Fits}
 use native.Mathlib.Nat.{div-eq_of_lt, div-lt_iff_lt-mul, one-le-pow, pow-le-pow_right, lt_of_lt_of_le}
 use borrow.Author.Tests.{ltb-true, leb-true, eqb-true}
-use Rattle.meaning.proofs.Tests.{same, and_left, and_right}
+use Rattle.meaning.proofs.Tests.{same, and_right}
 use Rattle.meaning.specs.declared.Reason.{Reason}
 use Rattle.fields.specs.Read.{Reader, got, judge, judged, byte_up_to}
 use Rattle.fields.proofs.Formats.{bind_out, judge_out, got_same}

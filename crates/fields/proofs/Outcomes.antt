@@ -1,5 +1,6 @@
 -- What a reading was of which this was handed on.
-use Rattle.std.proofs.Common.{arith, refl, ℕ, ◌≡◌, Ok, Err}
+use Rattle.std.proofs.Common.{arith, refl, ap, ℕ, ◌≡◌, ◌∙◌, Result, Ok, Err, IsErrAnd}
+use Rattle.std.proofs.lemmas.Result.{err_from_is_err_and}
 use Rattle.meaning.specs.declared.Refusal.{Refusal}
 use Rattle.fields.specs.Read.{Read, got, refused, mapped}
 use Rattle.fields.specs.Inside.Outcomes.{file_of}
@@ -22,3 +23,7 @@ pub mapped_held : {A B : Type 0} (f : A → B) (e : Read A) {b : B} → Ok b ≡
 unfolding mapped
 mapped_held f (got a at) h = (a, at, refl, cc)
 mapped_held f (refused r) h = let z : ◌≡◌ {A = ℕ} 0 1 = cc in absurd (omega arith)
+
+-- what `?` hands on is the refusal that it met
+pub handed_on : {T E : Type 0} {e : E} (r : Result T E) → IsErrAnd r (λ y. y ≡ e) → r ≡ Err e
+handed_on r h = let (y, is, same) = err_from_is_err_and r h in is ∙ ap Err same

@@ -31,7 +31,7 @@ use Rattle.program.proofs.Known.{program_held, program_legal}
 use Rattle.files.proofs.Handed.{under_got, under_out}
 use Rattle.files.specs.Inside.Opens.{Opens, OfElements, OfQuery, OfProgram, OfTablesThenQuery, OfTablesThenProgram}
 use Rattle.files.specs.Files.{under, followed_by, document_under, tables_under, query_under, program_under, tables_then_query, tables_then_program}
-use Rattle.files.specs.declared.Opened.{Opened}
+use Rattle.files.specs.declared.Under.{Under}
 
 -- The graph is refused, or the file under it.
 module _ (gra : List ℕ) {A : Type 0} (f : Graph → Read A) {r : Refusal} where
@@ -46,7 +46,7 @@ module _ (gra : List ℕ) {A : Type 0} (f : Graph → Read A) {r : Refusal} wher
 module _ (gra : List ℕ) {g : Graph} (p : Ok g ≡ file_of (graph_file gra 0)) (bytes : (i : ℕ) → Fits w8 (get_or gra i 0)) where
   -- elements that are kept
   elements_there : (f : Graph → Read (List Element)) → ((es : List Element) (n : ℕ) → f g ≡ got es n → Accepted element_limit g es)
-      → (kept : List Element) (count : ℕ) → Keeps (f g) kept (Ok count) → Opens (under gra f) (Ok (record { graph = g; count = count })) (OfElements kept)
+      → (kept : List Element) (count : ℕ) → Keeps (f g) kept (Ok count) → Opens (under gra f) (Ok (record { graph = g; read = count })) (OfElements kept)
   elements_there f accepted kept count k =
       let h = kept_there (f g) kept count k in (
         (g, take count kept),
@@ -63,20 +63,20 @@ module _ (gra : List ℕ) {g : Graph} (p : Ok g ≡ file_of (graph_file gra 0)) 
       )
 
   pub document_there : (tre : List ℕ) → ((i : ℕ) → Fits w8 (get_or tre i 0)) → (kept : List Element) (count : ℕ) → Keeps (document_file element_limit g tre 0) kept (Ok count)
-      → Opens (document_under gra tre) (Ok (record { graph = g; count = count })) (OfElements kept)
+      → Opens (document_under gra tre) (Ok (record { graph = g; read = count })) (OfElements kept)
   document_there tre b = elements_there (λ g. document_file element_limit g tre 0) (λ es n e. (document_read_lem element_limit g tre (λ i. (b i).fits) e).0)
 
   pub tables_there : (edg : List ℕ) → ((i : ℕ) → Fits w8 (get_or edg i 0)) → (kept : List Element) (count : ℕ) → Keeps (tables_file element_limit g edg 0) kept (Ok count)
-      → Opens (tables_under gra edg) (Ok (record { graph = g; count = count })) (OfElements kept)
+      → Opens (tables_under gra edg) (Ok (record { graph = g; read = count })) (OfElements kept)
   tables_there edg b = elements_there (λ g. tables_file element_limit g edg 0) (λ es n e. (tables_read_lem element_limit g (λ i. (b i).fits) e).0)
 
-  pub query_there : (qry : List ℕ) {nodes : ℕ} → Ok nodes ≡ file_of (mapped (λ (x : XPath × ℕ). query_limit - x.1) (query_file g.k qry 0)) → Opens (query_under gra qry) (Ok (record { graph = g; nodes = nodes })) OfQuery
+  pub query_there : (qry : List ℕ) {nodes : ℕ} → Ok nodes ≡ file_of (mapped (λ (x : XPath × ℕ). query_limit - x.1) (query_file g.k qry 0)) → Opens (query_under gra qry) (Ok (record { graph = g; read = nodes })) OfQuery
   query_there qry h =
       let (x, n, e, counts) = mapped_held _ (query_file g.k qry 0) h in
       ((g, x), n, under_got gra (λ g. query_file g.k qry 0) (graph_held gra p).1 e, record { graph = refl; legal = graph_legal gra p bytes; counts = counts })
 
   pub program_there : (rel : List ℕ) → ((i : ℕ) → Fits w8 (get_or rel i 0)) → {program : Program} → Ok program ≡ file_of (mapped program_of (program_file g.k rel 0)) → Numbered program
-      → Opens (program_under gra rel) (Ok (record { graph = g; program = program })) OfProgram
+      → Opens (program_under gra rel) (Ok (record { graph = g; read = program })) OfProgram
   program_there rel b {program} h numbered =
       let held = program_held g.k rel h in (
         (g, operations_in program),
@@ -109,7 +109,7 @@ module _ (gra edg : List ℕ) where
       by_graph (got g m) h = by_tables g (tables_file element_limit g edg 0) h
       by_graph (refused q) h = cc
 
-  module _ {kept : List Element} {o : Opened} (p : Opens (tables_under gra edg) (Ok o) (OfElements kept)) {A : Type 0} (f : Graph → Read A) where
+  module _ {kept : List Element} {o : Under ℕ} (p : Opens (tables_under gra edg) (Ok o) (OfElements kept)) {A : Type 0} (f : Graph → Read A) where
     -- the tables are there, and what follows them is refused, or there too
     pub behind_away : {r : Refusal} → f o.graph ≡ refused r → under gra (λ g. followed_by (tables_file element_limit g edg 0) (f g)) ≡ refused r
     unfolding under followed_by
@@ -120,7 +120,7 @@ module _ (gra edg : List ℕ) where
         let there : tables_file element_limit o.graph edg 0 ≡ got x.1 n = subst (λ g. tables_file element_limit g edg 0 ≡ got x.1 n) w.graph tables in
         rw (graph, there, h)
 
-    behind_there : {a : A} {k : ℕ} → f o.graph ≡ got a k → under gra (λ g. followed_by (tables_file element_limit g edg 0) (f g)) ≡ got (o.graph, (take o.count kept, a)) k
+    behind_there : {a : A} {k : ℕ} → f o.graph ≡ got a k → under gra (λ g. followed_by (tables_file element_limit g edg 0) (f g)) ≡ got (o.graph, (take o.read kept, a)) k
     unfolding under followed_by
     behind_there h =
         let (x, n, e, w) = p in
@@ -129,19 +129,19 @@ module _ (gra edg : List ℕ) where
         let there : tables_file element_limit o.graph edg 0 ≡ got x.1 n = subst (λ g. tables_file element_limit g edg 0 ≡ got x.1 n) w.graph tables in
         rw (graph, there, h, w.elements)
 
-  module _ {kept : List Element} {o : Opened} (p : Opens (tables_under gra edg) (Ok o) (OfElements kept)) where
+  module _ {kept : List Element} {o : Under ℕ} (p : Opens (tables_under gra edg) (Ok o) (OfElements kept)) where
     pub query_behind : (qry : List ℕ) {nodes : ℕ} → Ok nodes ≡ file_of (mapped (λ (x : XPath × ℕ). query_limit - x.1) (query_file o.graph.k qry 0)) → Opens (tables_then_query gra edg qry) (Ok o) (OfTablesThenQuery kept)
     query_behind qry h =
         let (x, n, e, _) = mapped_held _ (query_file o.graph.k qry 0) h in
         let (_, _, _, w) = p in
-        ((o.graph, (take o.count kept, x)), n, behind_there p (λ g. query_file g.k qry 0) e, record { graph = refl; elements = refl; legal = w.legal; accepted = w.accepted; whole = w.whole; room = w.room })
+        ((o.graph, (take o.read kept, x)), n, behind_there p (λ g. query_file g.k qry 0) e, record { graph = refl; elements = refl; legal = w.legal; accepted = w.accepted; whole = w.whole; room = w.room })
 
     pub program_behind : (rel : List ℕ) → ((i : ℕ) → Fits w8 (get_or rel i 0)) → {program : Program} → Ok program ≡ file_of (mapped program_of (program_file o.graph.k rel 0)) → Numbered program
-        → Opens (tables_then_program gra edg rel) (Ok (record { count = o.count; program = program })) (OfTablesThenProgram kept)
+        → Opens (tables_then_program gra edg rel) (Ok (record { count = o.read; program = program })) (OfTablesThenProgram kept)
     program_behind rel b {program} h numbered =
         let held = program_held o.graph.k rel h in
         let (_, _, _, w) = p in (
-          (o.graph, (take o.count kept, operations_in program)),
+          (o.graph, (take o.read kept, operations_in program)),
           held.at,
           behind_there p (λ g. program_file g.k rel 0) held.reads,
           record {

@@ -8,25 +8,11 @@ ghost use Rattle.files.specs.Files.{document_under, tables_under, query_under, p
 
 use meaning::{Element, Graph, Program, Refusal};
 
-// A graph, and how many elements are kept that were read under it.
+// A graph, and what was read under it: how many elements are kept, how many nodes a query has, or a program.
 #[derive(Clone, Copy)]
-pub struct Opened {
+pub struct Under<T> {
     pub graph: Graph,
-    pub count: usize,
-}
-
-// A graph, and how many nodes the query has that was read under it.
-#[derive(Clone, Copy)]
-pub struct Asked {
-    pub graph: Graph,
-    pub nodes: u8,
-}
-
-// A graph, and the program that was read under it.
-#[derive(Clone, Copy)]
-pub struct Checkable {
-    pub graph: Graph,
-    pub program: Program,
+    pub read: T,
 }
 
 // How many elements are kept, and the program to run over them.
@@ -36,38 +22,38 @@ pub struct Runnable {
     pub program: Program,
 }
 
-pub fn document(gra: &[u8], tre: &[u8], kept: &mut [Element]) -> Result<Opened, Refusal>
+pub fn document(gra: &[u8], tre: &[u8], kept: &mut [Element]) -> Result<Under<usize>, Refusal>
     requires { length kept.old ≡ element_limit }
     ensures { Opens (document_under gra.now tre.now) result (OfElements kept.new) }
 {
     let graph = graph::read(gra)?;
-    let count = document::read(tre, graph, kept)?;
-    Ok(Opened { graph, count })
+    let read = document::read(tre, graph, kept)?;
+    Ok(Under { graph, read })
 }
 
-pub fn tables(gra: &[u8], edg: &[u8], kept: &mut [Element]) -> Result<Opened, Refusal>
+pub fn tables(gra: &[u8], edg: &[u8], kept: &mut [Element]) -> Result<Under<usize>, Refusal>
     requires { length kept.old ≡ element_limit }
     ensures { Opens (tables_under gra.now edg.now) result (OfElements kept.new) }
 {
     let graph = graph::read(gra)?;
-    let count = tables::read(edg, graph, kept)?;
-    Ok(Opened { graph, count })
+    let read = tables::read(edg, graph, kept)?;
+    Ok(Under { graph, read })
 }
 
-pub fn query(gra: &[u8], qry: &[u8]) -> Result<Asked, Refusal>
+pub fn query(gra: &[u8], qry: &[u8]) -> Result<Under<u8>, Refusal>
     ensures { Opens (query_under gra.now qry.now) result OfQuery }
 {
     let graph = graph::read(gra)?;
-    let nodes = query::read(qry, graph.k)?;
-    Ok(Asked { graph, nodes })
+    let read = query::read(qry, graph.k)?;
+    Ok(Under { graph, read })
 }
 
-pub fn program(gra: &[u8], rel: &[u8]) -> Result<Checkable, Refusal>
+pub fn program(gra: &[u8], rel: &[u8]) -> Result<Under<Program>, Refusal>
     ensures { Opens (program_under gra.now rel.now) result OfProgram }
 {
     let graph = graph::read(gra)?;
-    let program = program::read(rel, graph.k)?;
-    Ok(Checkable { graph, program })
+    let read = program::read(rel, graph.k)?;
+    Ok(Under { graph, read })
 }
 
 pub fn tables_then_query(
@@ -75,7 +61,7 @@ pub fn tables_then_query(
     edg: &[u8],
     qry: &[u8],
     kept: &mut [Element],
-) -> Result<Opened, Refusal>
+) -> Result<Under<usize>, Refusal>
     requires { length kept.old ≡ element_limit }
     ensures { Opens (tables_then_query gra.now edg.now qry.now) result (OfTablesThenQuery kept.new) }
 {
@@ -93,7 +79,7 @@ pub fn tables_then_program(
     requires { length kept.old ≡ element_limit }
     ensures { Opens (tables_then_program gra.now edg.now rel.now) result (OfTablesThenProgram kept.new) }
 {
-    let Opened { graph, count } = tables(gra, edg, kept)?;
+    let Under { graph, read: count } = tables(gra, edg, kept)?;
     let program = program::read(rel, graph.k)?;
     Ok(Runnable { count, program })
 }

@@ -1,19 +1,19 @@
 -- The closure by sweeps, in a room: a row takes in, a sweep of them, and the sweeps in turn.
-use Prim.Native.Nat.{ℕ, suc, ◌+◌, ◌-◌, ◌≤◌, ◌<◌}
+use Rattle.std.proofs.Common.{Option, MatchOption, is_some}
+use Prim.Native.Nat.{ℕ, ◌+◌, ◌-◌, ◌≤◌, ◌<◌}
 use mathlib.Core.Path.{◌≡◌, refl, sym, ap, ap₂, ◌∙◌, fun_ext}
 use mathlib.Core.Bool.{Bool, false, ◌&&◌, ◌||◌, or_self, cond}
 use mathlib.Core.List.{List}
-use native.Mathlib.Numerals.{add-one}
 use native.Mathlib.Omega.{arith}
-use lib.Dec.{eqb, leb, ltb, leb-suc-suc}
+use lib.Dec.{eqb, leb}
 use lib.ListN.{length}
 use Rattle.meaning.specs.Limits.{small, row_bits, room_bytes}
 use Rattle.meaning.specs.Relations.{Relation, closure}
 use Rattle.meaning.proofs.Sets.{any_cong}
 use Rattle.rows.specs.declared.Mix.TheVariants.{Either, First}
-use Rattle.rows.specs.Inside.Rows.{in_row, Bits, gathered, mixes, rows_at, OthersStay, Next, mixed_rows}
+use Rattle.rows.specs.Inside.Rows.{in_row, Bits, gathered, mixes, rows_at, OthersStay, NextIs, mixed_rows}
 use Rattle.rows.proofs.Bytes.{kept_all, kept_inside}
-use Rattle.rows.proofs.Searches.{some_below}
+use Rattle.rows.proofs.Searches.{some_passes, some_upto}
 use Rattle.rooms.specs.Inside.Rooms.{up_to, changed, Places, RoomMade, TakenIn, Grown, Swept, Closable}
 use Rattle.rooms.proofs.Changes.{changed_here, up_to_all}
 use Rattle.rooms.proofs.Rooms.{room_on, operands_kept, places_kept, row_first, made_as, made_after}
@@ -21,18 +21,18 @@ use Rattle.rooms.proofs.Turns.{gathered_wide}
 use Rattle.rooms.proofs.Sweeps.{Sweeping, sweeping_more, Closing, closing_one, closing_all, closing_more, closing_closed}
 
 module _ (width : ℕ) where
-  pub row_taken : {xs ys before row after added : List ℕ} {base a v first : ℕ} → Places width (length xs) base a a (row_bits width)
+  pub row_taken : {xs ys before row after added : List ℕ} {base a v : ℕ} (first : Option ℕ) → Places width (length xs) base a a (row_bits width)
       → Bits before (rows_at width xs base v) → Bits row (rows_at width xs a v) → Bits after (gathered (row_bits small.row) (rows_at small.row xs base) (in_row row) (in_row before))
       → RoomMade width xs ys base (changed v (in_row after) (rows_at width xs base)) → Bits added (λ w. mixes First (in_row after w) (in_row before w))
-      → Next (row_bits small.row) (in_row added) 0 first → TakenIn width xs ys base a v (ltb first (row_bits width))
+      → NextIs (row_bits small.row) (in_row added) 0 first → TakenIn width xs ys base a v (is_some first)
   unfolding gathered changed
-  row_taken {xs} {ys} {before} {row} {after} {base = base} {a} {v} p b r g k m n =
+  row_taken {xs} {ys} {before} {row} {after} {base = base} {a} {v} first p b r g k m n =
       let now = gathered_wide width xs base (in_row row) (in_row before) p.sized g in
       record {
         row = made_as width refl k λ u w. ap (λ (t : Bool). cond (eqb u v) t (rows_at width xs base u w))
             (now.bits w ∙ ap₂ ◌||◌ (b.bits w) (any_cong (row_bits width) _ _ (λ x h. ap (λ (t : Bool). t && rows_at width xs base x w) (r.bits x))));
-        more = some_below (row_bits width) (omega arith)
-            (row_first width p.sized (record { bits = λ w. m.bits w ∙ ap₂ (mixes First) (sym (k.rows v w ∙ changed_here v (in_row after) (rows_at width xs base) refl w)) (b.bits w) }) n);
+        more = some_passes (row_bits width) _ first
+            (row_first width first p.sized (record { bits = λ w. m.bits w ∙ ap₂ (mixes First) (sym (k.rows v w ∙ changed_here v (in_row after) (rows_at width xs base) refl w)) (b.bits w) }) n);
       }
 
   -- A sweep has come down to v.
@@ -43,18 +43,18 @@ module _ (width : ℕ) where
     pub others : OthersStay old new base (room_bytes width)
 
   module _ {old xs : List ℕ} {base a size v : ℕ} {g k : Bool} (n : Sweeps old xs base a size v g k) where
-    pub sweeps_more : {ys : List ℕ} {t : Bool} {first : ℕ} → 0 < v → TakenIn width xs ys base a (v - 1) t → Next (row_bits width) (rows_at width ys a (v - 1)) 0 first
-        → Sweeps old ys base a size (v - 1) (g || t) (k || leb first (v - 1))
-    sweeps_more {ys} {first = first} l m e =
+    pub sweeps_more : {ys : List ℕ} {t behind : Bool} (first : Option ℕ) {Q : ℕ → Type 0} → 0 < v → TakenIn width xs ys base a (v - 1) t → NextIs (row_bits width) (rows_at width ys a (v - 1)) 0 first
+        → MatchOption first (behind ≡ false) Q → ((w : ℕ) → Q w → behind ≡ leb w (v - 1)) → Sweeps old ys base a size (v - 1) (g || t) (k || behind)
+    sweeps_more {ys} first l m e is up =
         let q : v ≡ v - 1 + 1 = omega arith in
         let small : v - 1 + 1 ≤ row_bits width = omega (arith, n.most, n.places.few) in
         let others = kept_inside (omega arith) (omega arith) n.others m.row.others in
-        let behind = sym (leb-suc-suc first (v - 1)) ∙ ap (leb (suc first)) (sym (add-one (v - 1))) ∙ some_below (v - 1 + 1) small e in
+        let back = some_upto (row_bits width) (v - 1) _ first (omega (arith, small)) e is up in
         record {
           places = n.places;
           most = omega (arith, n.most);
           rows = sweeping_more size (rows_at width old a) (v - 1) (rw q at n.rows) (room_on width old a)
-              (rw (operands_kept width n.others n.places).0 at m.row.rows) (room_on width ys base) m.more (rw (operands_kept width others n.places).0 at behind);
+              (rw (operands_kept width n.others n.places).0 at m.row.rows) (room_on width ys base) m.more (rw (operands_kept width others n.places).0 at back);
           others = others;
         }
 

@@ -1,4 +1,5 @@
 -- The rooms that are made of elements: a number that is tested, and the turns of the two loops that put numbers in.
+use Rattle.std.proofs.Common.{Option, MatchOption}
 use Prim.Native.Nat.{ℕ, zero, suc, ◌+◌, ◌-◌, ◌≤◌, ◌<◌}
 use mathlib.Core.Path.{◌≡◌, refl, sym, ap, ap₂, ◌∙◌}
 use mathlib.Core.Bool.{Bool, true, false, ◌&&◌, and-false, and_comm}
@@ -6,7 +7,7 @@ use mathlib.Core.List.{List, []}
 use native.Mathlib.Numerals.{add-one}
 use native.Mathlib.Omega.{arith}
 use borrow.Author.Tests.{ne_eqb, lt-ltb, le-leb, leb-true}
-use lib.Dec.{eqb, leb, ltb, leb-suc-suc}
+use lib.Dec.{eqb, leb, ltb}
 use lib.ListN.{length, get_or}
 use Rattle.std.proofs.lemmas.List.{get_or_default}
 use Rattle.meaning.specs.declared.Element.{Element}
@@ -19,9 +20,9 @@ use Rattle.meaning.specs.Documents.{View, is_element, is_parent, document_node, 
 use Rattle.meaning.specs.Operations.{rows}
 use Rattle.meaning.proofs.Tests.{and_in, and_left}
 use Rattle.meaning.proofs.Views.{element_there, parent_element}
-use Rattle.rows.specs.Inside.Rows.{rows_at, OthersStay, Next}
+use Rattle.rows.specs.Inside.Rows.{rows_at, OthersStay, NextIs}
 use Rattle.rows.proofs.Cases.{by_equal}
-use Rattle.rows.proofs.Searches.{some_below}
+use Rattle.rows.proofs.Searches.{some_upto}
 use Rattle.rooms.specs.declared.room.Room.{Room}
 use Rattle.rooms.specs.declared.relations.Test.{Test}
 use Rattle.rooms.specs.declared.relations.Test.TheVariants.{Always, Text, Related}
@@ -77,11 +78,10 @@ module _ (width : ℕ) (es : List Element) (xs : List ℕ) where
   unfolding passing
   pass_root number z = rw z (sym (ap (λ (b : Bool). b && eqb ((view es).text 0) number) (not_element es)))
 
-  pub pass_related : (a : Room) (v : ℕ) {first : ℕ} → length es < row_bits width → Next (row_bits width) (rows_at width xs a.base v) 0 first → leb first (length es) ≡ passing width (view es) xs (Related a) v
+  pub pass_related : (a : Room) (v : ℕ) (first : Option ℕ) {there : Bool} {Q : ℕ → Type 0} → length es < row_bits width → NextIs (row_bits width) (rows_at width xs a.base v) 0 first
+      → MatchOption first (there ≡ false) Q → ((w : ℕ) → Q w → there ≡ leb w (length es)) → there ≡ passing width (view es) xs (Related a) v
   unfolding passing
-  pass_related a v {first} l n =
-      sym (leb-suc-suc first (length es)) ∙ ap (leb (suc first)) (sym (add-one (length es))) ∙ some_below (length es + 1) (omega arith) n
-      ∙ ap (λ (m : ℕ). any m (rows_at width xs a.base v)) (size_is es)
+  pass_related a v first l n is up = some_upto (row_bits width) (length es) _ first l n is up ∙ ap (λ (m : ℕ). any m (rows_at width xs a.base v)) (size_is es)
 
 -- The numbers below v that pass are put in; old is the work area as it was when the room had been cleared.
 pub record Testing (width : ℕ) (old new : List ℕ) (base : ℕ) (es : List Element) (test : Test) (v : ℕ) : Type 0 where

@@ -1,4 +1,5 @@
 -- Laws of rooms: their bits, what stays of them, and a room that is made row by row or column by column.
+use Rattle.std.proofs.Common.{Option}
 use Prim.Native.Nat.{ℕ, ◌+◌, ◌*◌, ◌/◌, ◌%◌, ◌≤◌, ◌<◌}
 use mathlib.Core.Path.{◌≡◌, sym, ap, ap₂, ◌∙◌, fun_ext}
 use mathlib.Core.Bool.{Bool, false, ◌&&◌, ◌||◌, and-false, or-false, cond}
@@ -15,7 +16,7 @@ use Rattle.meaning.specs.Relations.{Relation, nothing}
 use Rattle.meaning.proofs.Sets.{bit_none}
 use Rattle.meaning.proofs.Tests.{never}
 use Rattle.meaning.proofs.Closure.{On}
-use Rattle.rows.specs.Inside.Rows.{in_row, in_bytes, Bits, Placed, including, stretch, rows_at, OthersStay, RowMade, BitPut, Next}
+use Rattle.rows.specs.Inside.Rows.{in_row, in_bytes, Bits, Placed, including, stretch, rows_at, OthersStay, RowMade, BitPut, NextIs}
 use Rattle.rows.proofs.Bytes.{kept_all, kept_inside, stretch_kept, stretch_at, put_there, put_others}
 use Rattle.rows.proofs.Cases.{by_order, by_equal}
 use Rattle.rows.proofs.Rows.{row_order, row_bit, row_past, row_read_lem}
@@ -95,13 +96,10 @@ module _ (width : ℕ) where
           }
 
   -- the first number of a row
-  pub row_first : {row : List ℕ} {f : ℕ → Bool} {first : ℕ} → RowWidth width → Bits row f → Next (row_bits small.row) (in_row row) 0 first → Next (row_bits width) f 0 first
-  row_first e b n = rw e record {
-    ahead = n.ahead;
-    most = n.most;
-    none = λ x l m. sym (b.bits x) ∙ n.none x l m;
-    found = λ l. sym (b.bits _) ∙ n.found l;
-  }
+  pub row_first : {row : List ℕ} {f : ℕ → Bool} (first : Option ℕ) → RowWidth width → Bits row f → NextIs (row_bits small.row) (in_row row) 0 first → NextIs (row_bits width) f 0 first
+  row_first {row} {f} first e b n =
+      let same : in_row row ≡ f = fun_ext λ w. b.bits w in
+      rw (e, ← same) n
 
   -- a room of zeros relates nothing
   pub cleared : (xs : List ℕ) (base : ℕ) {zeros : List ℕ} → base + room_bytes width ≤ length xs → zeros ≡ replicate (room_bytes width) 0

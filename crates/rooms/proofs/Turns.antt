@@ -1,4 +1,5 @@
 -- A room that is made of two others, row by row: one law for each way that a row is made, each turn and each end.
+use Rattle.std.proofs.Common.{Option, is_some}
 use Prim.Native.Nat.{ℕ, ◌+◌, ◌≤◌, ◌<◌}
 use mathlib.Core.Path.{◌≡◌, refl, sym, ap, ap₂, ◌∙◌}
 use mathlib.Core.Bool.{Bool, false, ◌&&◌, ◌||◌}
@@ -15,8 +16,8 @@ use Rattle.meaning.proofs.Sets.{any_in, any_out, any_cong}
 use Rattle.meaning.proofs.Closure.{On}
 use Rattle.rows.specs.declared.Mix.{Mix}
 use Rattle.rows.specs.declared.Mix.TheVariants.{Both}
-use Rattle.rows.specs.Inside.Rows.{in_row, Bits, including, gathered, mixes, rows_at, Next, mixed_rows}
-use Rattle.rows.proofs.Searches.{some_below}
+use Rattle.rows.specs.Inside.Rows.{in_row, Bits, including, gathered, mixes, rows_at, NextIs, mixed_rows}
+use Rattle.rows.proofs.Searches.{some_passes}
 use Rattle.rows.specs.declared.Row.{Row}
 use Rattle.rooms.specs.declared.relations.Way.{Way}
 use Rattle.rooms.specs.declared.relations.Way.TheVariants.{Mixed, Joined}
@@ -47,10 +48,10 @@ module _ (limit : ℕ) (r : Relation) where
   unfolding starting
   starts_none n = record { bits = λ u. n.bits u ∙ sym (ap (λ (t : Bool). t && any limit (r u)) (le-ltb u 0 (omega arith))) }
 
-  pub starts_more : {all more : List ℕ} {first v : ℕ} → Bits all (starting limit v r) → Next limit (r v) 0 first → Bits more (including (in_row all) v (ltb first limit)) → Bits more (starting limit (v + 1) r)
+  pub starts_more : {all more : List ℕ} (first : Option ℕ) (v : ℕ) → Bits all (starting limit v r) → NextIs limit (r v) 0 first → Bits more (including (in_row all) v (is_some first)) → Bits more (starting limit (v + 1) r)
   unfolding including starting
-  starts_more {first = first} {v} s n m = record {
-    bits = λ u. m.bits u ∙ ap (λ (t : Bool). t || (ltb first limit && eqb v u)) (s.bits u) ∙ one_more (λ u. any limit (r u)) v u (sym (some_below limit (omega arith) n));
+  starts_more first v s n m = record {
+    bits = λ u. m.bits u ∙ ap (λ (t : Bool). t || (is_some first && eqb v u)) (s.bits u) ∙ one_more (λ u. any limit (r u)) v u (sym (some_passes limit (r v) first n));
   }
 
 -- Rows below v of the room at base are made of the rooms at a and b; old is the work area as it was when it had been cleared.

@@ -10,7 +10,7 @@ ghost use Rattle.rows.specs.Inside.Rows.{Bits, rows_at, mixed_rows};
 ghost use Rattle.rooms.specs.Inside.FitToRun.{Nodes};
 ghost use Rattle.rooms.specs.Inside.Rooms.{up_to, columns, starting, passing, combined, Places, Testable, RoomMade, TakenIn, Swept, Closable};
 
-use crate::room::{BITS, Room};
+use crate::room::Room;
 use meaning::Element;
 use rows::{Mix, Row};
 
@@ -40,7 +40,7 @@ impl Test {
         match self {
             Test::Always => true,
             Test::Text(number) => v != 0 && elements[v - 1].text == number,
-            Test::Related(a) => a.first(work, v) <= elements.len(),
+            Test::Related(a) => a.first(work, v).is_some_and(|w| w <= elements.len()),
         }
     }
 }
@@ -91,7 +91,7 @@ impl Room {
     {
         let mut all = Row::empty();
         for v in 0..size {
-            all = all.with(v, self.first(work, v) < BITS);
+            all = all.with(v, self.first(work, v).is_some());
         }
         all
     }
@@ -133,7 +133,7 @@ impl Room {
         let before = self.read(work, v);
         let after = self.gather(work, a.read(work, v), before);
         self.write(work, v, after);
-        after.mixed(Mix::First, before).next(0) < BITS
+        after.mixed(Mix::First, before).next(0).is_some()
     }
 
     // Each row takes in, the last first: so one sweep is enough where a row names higher numbers only. Whether another may
@@ -146,7 +146,7 @@ impl Room {
         let mut back = false;
         for v in (0..size).rev() {
             grew |= self.take_in(work, a, v);
-            back |= a.first(work, v) <= v;
+            back |= a.first(work, v).is_some_and(|w| w <= v);
         }
         grew & back
     }

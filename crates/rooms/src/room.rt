@@ -2,7 +2,7 @@
 ghost use Rattle.std.specs.Prelude.{◌≡◌, ◌+◌, ◌*◌, ◌≤◌, ◌<◌, length};
 ghost use Rattle.meaning.specs.Limits.{small, row_bits, room_bytes};
 ghost use Rattle.meaning.specs.Relations.{nothing};
-ghost use Rattle.rows.specs.Inside.Rows.{in_row, rows_at, gathered, Bits, Next};
+ghost use Rattle.rows.specs.Inside.Rows.{in_row, rows_at, gathered, Bits, NextIs};
 ghost use Rattle.rooms.specs.Inside.Rooms.{changed, added, RoomMade};
 
 use meaning::SMALL;
@@ -67,10 +67,10 @@ impl Room {
         rows::put(work, rows::place(self.base, v, WIDTH), w, there);
     }
 
-    // The first number that the row of v has, or as many as a row has bits.
-    pub fn first(self, work: &[u8], v: usize) -> usize
+    // The first number that the row of v has.
+    pub fn first(self, work: &[u8], v: usize) -> Option<usize>
         requires { (self.base + room_bytes small.row ≤ length work.now) × (v < row_bits small.row) }
-        ensures { Next (row_bits small.row) (rows_at small.row work.now self.base v) 0 result }
+        ensures { NextIs (row_bits small.row) (rows_at small.row work.now self.base v) 0 result }
     {
         self.read(work, v).next(0)
     }

@@ -1,4 +1,5 @@
 -- Laws of rows: their bits, and what the functions on rows make of them.
+use Rattle.std.proofs.Common.{Option, Some, None, MatchOption, IsSomeAnd}
 use Prim.Native.Nat.{ℕ, ◌+◌, ◌-◌, ◌*◌, ◌/◌, ◌%◌, ◌^◌, ◌≤◌, ◌<◌, min}
 use mathlib.Core.Path.{◌≡◌, refl, sym, ap, ◌∙◌}
 use mathlib.Core.Bool.{Bool, true, false, ◌||◌, or-false}
@@ -13,7 +14,7 @@ use lib.Seq.{get_or-set_same, get_or-set_other}
 use Rattle.meaning.specs.Limits.{row_bits}
 use Rattle.meaning.specs.Sets.{bit}
 use Rattle.meaning.proofs.Sets.{bit_none}
-use Rattle.rows.specs.Inside.Rows.{bit_in, in_row, in_bytes, Bits, including, stretch, rows_at, Placed, Lowest, RowMade, Next}
+use Rattle.rows.specs.Inside.Rows.{bit_in, in_row, in_bytes, Bits, including, stretch, rows_at, Placed, Lowest, RowMade, Next, NextIs}
 use Rattle.rows.proofs.Cases.{by_order, by_equal}
 use Rattle.meaning.proofs.Bits.{bits_below, bit_or_lem}
 use Rattle.rows.proofs.Bits.{bit_shifted, shifted_one, bit_power, bit_power_other, word_bit}
@@ -113,17 +114,20 @@ module _ (n from : ℕ) where
   shifted_bit : (x : ℕ) → from ≤ x → bit n x ≡ bit (n / 2 ^ from) (x - from)
   shifted_bit x l = let e : from + (x - from) ≡ x = omega arith in ap (bit n) (sym e) ∙ sym (bit_shifted from (x - from) n)
 
-  pub word_found : {t : ℕ} → n < 2 ^ 64 → Lowest 64 (n / 2 ^ from) t → Next 64 (bit n) from (from + t)
+  pub word_found : {t : ℕ} → n < 2 ^ 64 → Lowest 64 (n / 2 ^ from) t → NextIs 64 (bit n) from (Some (from + t))
   word_found {t} small low =
       let there : bit n (from + t) ≡ true = sym (bit_shifted from t n) ∙ low.isset in
-      record {
-        ahead = omega arith;
-        most = omega (arith, bits_below 64 n small (from + t) there);
-        none = λ x a b. shifted_bit x a ∙ low.zeros (x - from) (omega arith);
-        found = λ l. there;
-      }
+      let below = bits_below 64 n small (from + t) there in (
+        below,
+        record {
+          ahead = omega arith;
+          most = omega (arith, below);
+          none = λ x a b. shifted_bit x a ∙ low.zeros (x - from) (omega arith);
+          found = λ l. there;
+        },
+      )
 
-  pub word_ended : from ≤ 64 → (from < 64 → n / 2 ^ from ≡ 0) → Next 64 (bit n) from 64
+  pub word_ended : from ≤ 64 → (from < 64 → n / 2 ^ from ≡ 0) → NextIs 64 (bit n) from None
   word_ended l h = record {
     ahead = l;
     most = omega arith;
@@ -132,26 +136,35 @@ module _ (n from : ℕ) where
   }
 
 -- The next bit of a row of two words is in the first of them, or in the second.
-module _ (row : List ℕ) (from : ℕ) {w : ℕ} (low : Next 64 (bit (get_or row 0 0)) (min from 64) w) where
+module _ (row : List ℕ) (from : ℕ) where
   first : (x : ℕ) → x < 64 → in_row row x ≡ bit (get_or row 0 0) x
   first x l = rw zero-add at (word_bit row 0 x l)
 
   second : (x : ℕ) → 64 ≤ x → x < 128 → in_row row x ≡ bit (get_or row 1 0) (x - 64)
   second x h k = let e : 64 * 1 + (x - 64) ≡ x = omega arith in ap (in_row row) (sym e) ∙ word_bit row 1 (x - 64) (omega arith)
 
-  pub row_found : w < 64 → Next 128 (in_row row) from w
-  row_found l = record {
-    ahead = omega (arith, low.ahead);
-    most = omega arith;
-    none = λ x a b. first x (omega arith) ∙ low.none x (omega arith) b;
-    found = λ h. first w l ∙ low.found l;
-  }
+  pub row_found : {w : ℕ} → NextIs 64 (bit (get_or row 0 0)) (min from 64) (Some w) → NextIs 128 (in_row row) from (Some w)
+  row_found {w} (l, low) = (
+    omega arith,
+    record {
+      ahead = omega (arith, low.ahead);
+      most = omega arith;
+      none = λ x a b. first x (omega arith) ∙ low.none x (omega arith) b;
+      found = λ h. first w l ∙ low.found l;
+    },
+  )
 
-  pub row_onward : {v : ℕ} → from ≤ 128 → 64 ≤ w → Next 64 (bit (get_or row 1 0)) (from - 64) v → Next 128 (in_row row) from (64 + v)
-  row_onward {v} m l high = record {
-    ahead = omega (arith, high.ahead);
+  onward : NextIs 64 (bit (get_or row 0 0)) (min from 64) None → from ≤ 128 → {v : ℕ} → Next 64 (bit (get_or row 1 0)) (from - 64) v → Next 128 (in_row row) from (64 + v)
+  onward low m {v} high = record {
+    ahead = omega (arith, high.ahead, low.ahead);
     most = omega (arith, high.most);
     none = λ x a b.
         by_order x 64 (λ h. first x h ∙ low.none x (omega arith) (omega arith)) (λ h. second x h (omega (arith, high.most)) ∙ high.none (x - 64) (omega arith) (omega arith));
     found = λ h. word_bit row 1 v (omega arith) ∙ high.found (omega arith);
   }
+
+  pub row_onward : NextIs 64 (bit (get_or row 0 0)) (min from 64) None → from ≤ 128 → (o made : Option ℕ) → NextIs 64 (bit (get_or row 1 0)) (from - 64) o
+      → {Q : ℕ → ℕ → Type 0} → MatchOption o (made ≡ None) (λ v. IsSomeAnd made (Q v)) → ((v w : ℕ) → Q v w → w ≡ 64 + v) → NextIs 128 (in_row row) from made
+  row_onward low m None made high is same = rw is (onward low m high)
+  row_onward low m (Some v) (Some w) (l, high) is same = rw (same v w is) (omega arith, onward low m high)
+  row_onward low m (Some v) None h is same = absurd is

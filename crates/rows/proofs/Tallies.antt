@@ -1,4 +1,5 @@
 -- Laws of the answer: how many pass, by words, and the list of them, written one by one.
+use Rattle.std.proofs.Common.{Option, unwrap_or}
 use Prim.Native.Nat.{ℕ, zero, suc, ◌+◌, ◌*◌, ◌/◌, ◌%◌, ◌^◌, ◌≤◌, ◌<◌, min}
 use mathlib.Core.Path.{◌≡◌, refl, ap, ◌∙◌}
 use mathlib.Core.Bool.{Bool, true, false, cond}
@@ -13,9 +14,9 @@ use Rattle.meaning.specs.Sets.{bit, listed}
 use Rattle.meaning.proofs.Sets.{listed_cong}
 use Rattle.writing.specs.Inside.Put.{Put}
 use Rattle.writing.proofs.Puts.{put_nothing, put_then, put_byte}
-use Rattle.rows.specs.Inside.Rows.{in_row, Next}
+use Rattle.rows.specs.Inside.Rows.{in_row, Next, NextIs}
 use Rattle.rows.proofs.Bits.{digit, word_bit}
-use Rattle.rows.proofs.Searches.{listed_still}
+use Rattle.rows.proofs.Searches.{listed_still, next_is}
 
 -- how many below n pass
 abbrev tally : ℕ → (ℕ → Bool) → ℕ
@@ -72,16 +73,20 @@ pub record Listing (limit size : ℕ) (f : ℕ → Bool) (old new : List ℕ) (m
   pub put : Put 0 (listed (min w size) f) old new m
 
 module _ {limit size : ℕ} {f : ℕ → Bool} {old : List ℕ} where
-  pub listing_none : {w : ℕ} → Next limit f 0 w → Listing limit size f old old 0 w
+  pub listing_none : (o : Option ℕ) → NextIs limit f 0 o → Listing limit size f old old 0 (unwrap_or o limit)
   unfolding listed
-  listing_none {w} n =
+  listing_none o is =
+      let w : ℕ = unwrap_or o limit in
+      let n : Next limit f 0 w = next_is o is in
       let e : listed (min w size) f ≡ [] = listed_still 0 (min w size) f (omega arith) (λ x l m. n.none x l (omega arith)) in
       record { few = omega arith; most = n.most; found = n.found; same = refl; put = rw e (put_nothing 0 old) }
 
   module _ {new : List ℕ} {m w : ℕ} (s : Listing limit size f old new m w) (fits : size ≤ limit) (room : size ≤ length old) where
-    pub listing_more : {v : ℕ} → w < size → Next limit f (w + 1) v → Listing limit size f old (set new m w) (m + 1) v
+    pub listing_more : w < size → (o : Option ℕ) → NextIs limit f (w + 1) o → Listing limit size f old (set new m w) (m + 1) (unwrap_or o limit)
     unfolding listed
-    listing_more {v} l n =
+    listing_more l o is =
+        let v : ℕ = unwrap_or o limit in
+        let n : Next limit f (w + 1) v = next_is o is in
         let at-w : min w size ≡ w = omega arith in
         let vs : List ℕ = listed w f in
         let now : Put 0 vs old new m = rw at-w at s.put in

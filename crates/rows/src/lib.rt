@@ -5,7 +5,7 @@
 ghost use Rattle.std.specs.Prelude.{◌≡◌, false, ◌+◌, ◌*◌, ◌^◌, ◌/◌, ◌≤◌, ◌<◌, length};
 ghost use Rattle.meaning.specs.Limits.{small, row_bits, room_bytes};
 ghost use Rattle.meaning.specs.Sets.{bit, mask, listed};
-ghost use Rattle.rows.specs.Inside.Rows.{in_row, in_bytes, stretch, rows_from, rows_at, Bits, Placed, including, gathered, mixes, mixed_word, Lowest, RowMade, BitPut, Next};
+ghost use Rattle.rows.specs.Inside.Rows.{in_row, in_bytes, stretch, rows_from, rows_at, Bits, Placed, including, gathered, mixes, mixed_word, Lowest, RowMade, BitPut, NextIs};
 ghost use Rattle.writing.specs.Lent.{over};
 
 use meaning::SMALL;
@@ -73,15 +73,15 @@ fn lowest(word: u64) -> usize
     word.trailing_zeros() as usize
 }
 
-// The first bit of a word from a number on, or 64. A shift by 64 has no meaning.
-fn next_in(word: u64, from: usize) -> usize
+// The first bit of a word from a number on. A shift by 64 has no meaning.
+fn next_in(word: u64, from: usize) -> Option<usize>
     requires { from ≤ 64 }
-    ensures { Next 64 (bit word) from result }
+    ensures { NextIs 64 (bit word) from result }
 {
     if from < 64 && word >> from != 0 {
-        from + lowest(word >> from)
+        Some(from + lowest(word >> from))
     } else {
-        64
+        None
     }
 }
 
@@ -148,17 +148,15 @@ impl Row {
         self
     }
 
-    // The first w from a number on, or as many as a row has bits: that is more than any w, so a caller compares once.
-    pub fn next(self, from: usize) -> usize
+    // The first w from a number on.
+    pub fn next(self, from: usize) -> Option<usize>
         requires { from ≤ row_bits small.row }
-        ensures { Next (row_bits small.row) (in_row self.words) from result }
+        ensures { NextIs (row_bits small.row) (in_row self.words) from result }
     {
         let [low, high] = self.words;
-        let w = next_in(low, from.min(64));
-        if w < 64 {
-            w
-        } else {
-            64 + next_in(high, from.saturating_sub(64))
+        match next_in(low, from.min(64)) {
+            Some(w) => Some(w),
+            None => next_in(high, from.saturating_sub(64)).map(|w| 64 + w),
         }
     }
 
@@ -210,13 +208,16 @@ impl Row {
         requires { (size ≤ row_bits small.row) × (size ≤ length out.old) }
         ensures { out.new ≡ over 0 (listed size (in_row self.words)) out.old }
     {
-        let mut w = self.next(0);
+        let mut next = self.next(0);
         for place in out.iter_mut() {
+            let Some(w) = next else {
+                return;
+            };
             if size <= w {
                 return;
             }
             *place = w as u8;
-            w = self.next(w + 1);
+            next = self.next(w + 1);
         }
     }
 }

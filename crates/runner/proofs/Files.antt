@@ -1,7 +1,7 @@
 -- A run on files: a refusal ends it, and else the program is run over the elements.
-use Prim.Native.Nat.{ℕ, ◌≤◌}
+use Prim.Native.Nat.{ℕ}
 use Rattle.std.proofs.Common.{Ok}
-use lib.ListN.{length, take}
+use lib.ListN.{take}
 use mathlib.Core.Path.{◌≡◌}
 use mathlib.Core.List.{List}
 use Rattle.meaning.specs.declared.Answer.{Answer}

@@ -7,7 +7,6 @@ use mathlib.Core.List.{List}
 use native.Mathlib.Omega.{arith}
 use lib.Dec.{leb}
 use lib.ListN.{length, get_or, take}
-use borrow.Author.Rules.{rules}
 use borrow.Author.Tests.{le-leb, lt-leb, leb-true, leb-false}
 use mir.Syntax.{w8}
 use mir.Val.{Fits}
@@ -37,7 +36,7 @@ use Rattle.writing.specs.Lent.{Lent, accepted, turned_away, over, lent, Leaves}
 use Rattle.writing.proofs.Puts.{over_front, over_length}
 use Rattle.writing.proofs.Stored.{stored_there}
 use Rattle.writing.proofs.Told.{same_number, some_number}
-use Rattle.files.specs.declared.Opened.{Opened}
+use Rattle.files.specs.declared.Under.{Under}
 use Rattle.files.specs.declared.Runnable.{Runnable}
 use Rattle.files.specs.Inside.Opens.{Opens, OfElements, OfTablesThenQuery}
 use Rattle.files.specs.Files.{followed_by, tables_then_query}
@@ -126,9 +125,9 @@ module _ (gra edg qry : List ℕ) where
   unfolding asked
   plan_away h = rw h
 
-  module _ {kept : List Element} {o : Opened} (p : Opens (tables_then_query gra edg qry) (Ok o) (OfTablesThenQuery kept)) where
+  module _ {kept : List Element} {o : Under ℕ} (p : Opens (tables_then_query gra edg qry) (Ok o) (OfTablesThenQuery kept)) where
     abbrev es : List Element
-    es = take o.count kept
+    es = take o.read kept
 
     parts : (q : XPath) × (left : ℕ) × (n : ℕ) × (tables_then_query gra edg qry ≡ got (o.graph, (es, (q, left))) n) × (query_file o.graph.k qry 0 ≡ got (q, left) n) × OfElements kept o (o.graph, es)
     parts =
@@ -148,7 +147,7 @@ module _ (gra edg qry : List ℕ) where
     unfolding asked translated_query bounded_program
     plan_refused t = let (q, left, n, e, query, w) = parts in rw e (mapped_refused _ (rw query at t))
 
-    pub plan_made : {program : Program} → Opens (translated_query o.graph qry) (Ok program) (Translated o.graph) → Opens (asked gra edg qry) (Ok (record { count = o.count; program = program })) (Planned kept)
+    pub plan_made : {program : Program} → Opens (translated_query o.graph qry) (Ok program) (Translated o.graph) → Opens (asked gra edg qry) (Ok (record { count = o.read; program = program })) (Planned kept)
     unfolding asked translated_query bounded_program
     plan_made {program} t =
         let (q, left, n, e, query, w) = parts in

@@ -18,16 +18,13 @@ mod plan;
 use announce::Checked;
 use elements::DOCUMENT_NODE;
 use meaning::{Answer, Refusal, SMALL};
-use writing::{accepted, answer, turned_away};
+use writing::answer;
 
 // A graph: how many types it has.
 pub fn tb_read_graph(gra: &[u8]) -> Answer
     ensures { result ≡ read_graph gra.now }
 {
-    match graph::read(gra) {
-        Ok(graph) => accepted(u32::from(graph.k)),
-        Err(refusal) => turned_away(refusal),
-    }
+    answer(graph::read(gra).map(|graph| u32::from(graph.k)))
 }
 
 // A document: how many elements it has.
@@ -35,10 +32,7 @@ pub fn tb_read_document(gra: &[u8], tre: &[u8]) -> Answer
     ensures { result ≡ read_document gra.now tre.now }
 {
     let mut kept = [DOCUMENT_NODE; SMALL.elements];
-    match files::document(gra, tre, &mut kept) {
-        Ok(opened) => accepted(opened.count as u32),
-        Err(refusal) => turned_away(refusal),
-    }
+    answer(files::document(gra, tre, &mut kept).map(|opened| opened.read as u32))
 }
 
 // Tables: how many elements they hold.
@@ -46,30 +40,21 @@ pub fn tb_read_tables(gra: &[u8], edg: &[u8]) -> Answer
     ensures { result ≡ read_tables gra.now edg.now }
 {
     let mut kept = [DOCUMENT_NODE; SMALL.elements];
-    match files::tables(gra, edg, &mut kept) {
-        Ok(opened) => accepted(opened.count as u32),
-        Err(refusal) => turned_away(refusal),
-    }
+    answer(files::tables(gra, edg, &mut kept).map(|opened| opened.read as u32))
 }
 
 // A query: how many nodes it has.
 pub fn tb_read_query(gra: &[u8], qry: &[u8]) -> Answer
     ensures { result ≡ read_query gra.now qry.now }
 {
-    match files::query(gra, qry) {
-        Ok(opened) => accepted(u32::from(opened.nodes)),
-        Err(refusal) => turned_away(refusal),
-    }
+    answer(files::query(gra, qry).map(|opened| u32::from(opened.read)))
 }
 
 // A program: how many steps it has.
 pub fn tb_read_program(gra: &[u8], rel: &[u8]) -> Answer
     ensures { result ≡ read_program gra.now rel.now }
 {
-    match files::program(gra, rel) {
-        Ok(opened) => accepted(opened.program.count as u32),
-        Err(refusal) => turned_away(refusal),
-    }
+    answer(files::program(gra, rel).map(|opened| opened.read.count as u32))
 }
 
 // The tables of a document. `out` needs 6 + k + 4n bytes; the length written is the answer.

@@ -7,7 +7,7 @@ ghost use Rattle.translator.specs.Inside.Translated.{translated_query};
 ghost use Rattle.trammelbud.specs.Calls.{asked};
 ghost use Rattle.trammelbud.specs.Inside.Parts.{Translated, Planned};
 
-use files::{Opened, Runnable};
+use files::{Runnable, Under};
 use meaning::{Element, Graph, Program, Refusal, STEPS};
 
 // The file of a program with as many steps as there may be.
@@ -32,7 +32,7 @@ pub(crate) fn make(
     requires { length kept.old ≡ element_limit }
     ensures { Opens (asked gra.now edg.now qry.now) result (Planned kept.new) }
 {
-    let Opened { graph, count } = files::tables_then_query(gra, edg, qry, kept)?;
+    let Under { graph, read: count } = files::tables_then_query(gra, edg, qry, kept)?;
     let program = translated(graph, qry)?;
     Ok(Runnable { count, program })
 }

@@ -26,7 +26,7 @@ use Rattle.rel.specs.Rel.{steps_bytes, program_bytes}
 use Rattle.writing.specs.Lent.{Leaves, accepted, turned_away, over, lent}
 use Rattle.writing.proofs.Puts.{over_nothing, over_more, over_length}
 use Rattle.writing.proofs.Stored.{stored_none, stored_there}
-use Rattle.files.specs.declared.Asked.{Asked}
+use Rattle.files.specs.declared.Under.{Under}
 use Rattle.files.specs.Inside.Opens.{Opens, OfQuery}
 use Rattle.files.specs.Files.{query_under}
 use Rattle.files.proofs.Handed.{under_out}
@@ -44,7 +44,7 @@ module _ (gra qry : List ℕ) where
   unfolding translation lent
   query_away out h = rw h
 
-  module _ {o : Asked} (p : Opens (query_under gra qry) (Ok o) OfQuery) where
+  module _ {o : Under ℕ} (p : Opens (query_under gra qry) (Ok o) OfQuery) where
     read_under : (x : XPath × ℕ) × (n : ℕ) × (query_under gra qry ≡ got (o.graph, x) n) × (query_file o.graph.k qry 0 ≡ got x n)
     read_under =
         let (x, n, e, w) = p in

@@ -1,5 +1,5 @@
 -- Rows of bits: in the work area they stand in bytes, in hand in words, the lowest first in both.
-use Rattle.std.specs.Prelude.{ℕ, ◌+◌, ◌*◌, ◌/◌, ◌%◌, ◌≤◌, ◌<◌, ◌≡◌, Bool, true, false, not, ◌&&◌, ◌||◌, List, eqb, ltb, length, get_or, take, drop}
+use Rattle.std.specs.Prelude.{ℕ, ◌+◌, ◌*◌, ◌/◌, ◌%◌, ◌≤◌, ◌<◌, ◌≡◌, Bool, true, false, not, ◌&&◌, ◌||◌, List, eqb, ltb, length, get_or, take, drop, Option, Some, None}
 use Rattle.meaning.specs.Limits.{row_bits, room_bytes}
 use Rattle.meaning.specs.Sets.{any, bit, mask}
 use Rattle.meaning.specs.Relations.{Relation}
@@ -88,3 +88,8 @@ pub record Next (limit : ℕ) (f : ℕ → Bool) (from r : ℕ) : Type 0 where
   pub most : r ≤ limit
   pub none : (x : ℕ) → from ≤ x → x < r → f x ≡ false
   pub found : r < limit → f r ≡ true
+
+-- the first number from some number on that passes, if one below the limit does
+abbrev pub NextIs : (limit : ℕ) → (ℕ → Bool) → ℕ → Option ℕ → Type 0
+NextIs limit f from (Some r) = (r < limit) × Next limit f from r
+NextIs limit f from None = Next limit f from limit

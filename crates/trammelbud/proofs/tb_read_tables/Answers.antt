@@ -1,10 +1,9 @@
 -- The tables count their elements.
-use Rattle.std.proofs.Common.{◌∙◌}
-use Rattle.trammelbud.proofs.Counts.{tables_away, tables_counted}
+use Rattle.std.proofs.Common.{rules, ◌∙◌, length}
+use Rattle.trammelbud.specs.Calls.{read_tables}
+use Rattle.trammelbud.proofs.Counts.{counted, elements_whole}
 use Rattle.trammelbud.proofs.tb_read_tables.Goals as goal
 
-pub returns-in-Ok : goal.returns-in-Ok
-returns-in-Ok c = c.accepted.ensures ∙ tables_counted _ _ _ _ c.in-Ok.ensures
-
-pub returns-in-Err : goal.returns-in-Err
-returns-in-Err c = c.turned_away.ensures ∙ tables_away _ _ c.in-Err.ensures
+pub returns : goal.returns
+unfolding read_tables
+returns c = c.answer.ensures ∙ counted _ (λ x. length x.1) _ c.tables.ensures _ c.map.ensures.cases (λ v a n w q. let counts = elements_whole w in search rules)

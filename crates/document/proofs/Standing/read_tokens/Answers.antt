@@ -1,5 +1,5 @@
 -- After a token reading goes on, or it is at its end: refused, or element 1 is closed.
-use Rattle.std.proofs.lemmas.Result.{err_from_is_err_and}
+use Rattle.fields.proofs.Outcomes.{handed_on}
 use Rattle.fields.specs.Read.{mapped}
 use Rattle.document.specs.Inside.States.{open_in}
 use Rattle.document.proofs.Reading.{turn_less, turn_last, turn_refused, turn_again}
@@ -16,8 +16,7 @@ loop-standing-smaller c = turn_less c.loop-standing.invariant c.in_ok-standing.e
 pub returns-in_err-standing : goal.returns-in_err-standing
 unfolding mapped
 returns-in_err-standing c =
-    let p = err_from_is_err_and c.from_residual.result c.from_residual.ensures.1 in
-    rw (p.1, p.2) (turn_refused c.loop-standing.invariant c.in_err-standing.ensures)
+    rw (handed_on c.from_residual.result c.from_residual.ensures.1) (turn_refused c.loop-standing.invariant c.in_err-standing.ensures)
 
 pub returns-then-standing-eq0 : goal.returns-then-standing-eq0
 unfolding mapped open_in

@@ -1,6 +1,6 @@
 -- The room for the longest text is judged first; then the nodes are there, or the work area was too short.
 use Rattle.std.proofs.Common.{rules, refl, sym, length-take-le}
-use Rattle.std.proofs.lemmas.Result.{err_from_is_err_and}
+use Rattle.fields.proofs.Outcomes.{handed_on}
 use Rattle.writing.proofs.Told.{some_number}
 use Rattle.trammelbud.proofs.Lists.{list_short, list_refused, list_inside, list_listable, list_small, list_all}
 use Rattle.trammelbud.proofs.list.list.Goals as goal
@@ -9,7 +9,7 @@ pub returns-then-out-elements : goal.returns-then-out-elements
 returns-then-out-elements c = list_short c.requires _ _ c.if-out-elements.true refl
 
 pub returns-in_err-count : goal.returns-in_err-count
-returns-in_err-count c = let p = err_from_is_err_and c.from_residual.result c.from_residual.ensures.1 in rw (p.1, p.2) (list_refused c.requires _ _ c.if-out-elements.false c.in_err-count.ensures (some_number _))
+returns-in_err-count c = rw (handed_on c.from_residual.result c.from_residual.ensures.1) (list_refused c.requires _ _ c.if-out-elements.false c.in_err-count.ensures (some_number _))
 
 pub slice_bounds-nodes-end : goal.slice_bounds-nodes-end
 slice_bounds-nodes-end c = list_inside c.requires _ _ c.if-out-elements.false c.in_ok-count.ensures refl

@@ -1,5 +1,5 @@
 -- Each test, by what it asks of the number.
-use Rattle.std.proofs.Common.{◌∙◌, ap, arith, not, eq-eqb}
+use Rattle.std.proofs.Common.{rules, ◌∙◌, ap, arith, not, eq-eqb}
 use Rattle.meaning.specs.Limits.{small}
 use Rattle.rooms.proofs.Elements.{pass_always, pass_text, pass_root, pass_related}
 use Rattle.rooms.proofs.relations.Test.passes.Goals as goal
@@ -15,4 +15,4 @@ returns-else-v-ne0 c =
     rw c.in-Text.is (ap not (eq-eqb c.args.v 0 c.if-v-ne0.false) ∙ pass_root small.row c.args.elements.now c.args.work.now c.in-Text.number c.if-v-ne0.false)
 
 pub returns-in-Related : goal.returns-in-Related
-returns-in-Related c = rw c.in-Related.is (pass_related small.row c.args.elements.now c.args.work.now c.in-Related.a c.args.v c.requires.0.few c.first.ensures)
+returns-in-Related c = rw c.in-Related.is (pass_related small.row c.args.elements.now c.args.work.now c.in-Related.a c.args.v _ c.requires.0.few c.first.ensures c.is_some_and.ensures (λ w q. search rules))

@@ -4,4 +4,4 @@ use Rattle.rooms.proofs.Closings.{Sweeps}
 use Rattle.rooms.proofs.room.Room.sweep.Given as goal
 
 abbrev pub invariant-loop-v : goal.invariant-loop-v
-invariant-loop-v l = Sweeps small.row l.initial.work l.work l.self.base l.a.base l.size l.v l.grew l.back
+invariant-loop-v l = Sweeps small.row l.initial.work l.work l.self.base l.a.base l.size l.v-counter l.grew l.back
