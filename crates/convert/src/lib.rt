@@ -5,7 +5,7 @@ ghost use Rattle.writing.specs.Lent.{Leaves};
 ghost use Rattle.writing.specs.Inside.Made.{answer_for};
 ghost use Rattle.convert.specs.Convert.{shredded, rebuilt};
 
-use elements::DOCUMENT_NODE;
+use elements::UNREAD;
 use files::Under;
 use meaning::{Refusal, SMALL};
 
@@ -13,7 +13,7 @@ use meaning::{Refusal, SMALL};
 pub fn shred(gra: &[u8], tre: &[u8], out: &mut [u8]) -> Result<u32, Refusal>
     ensures { Leaves (shredded gra.now tre.now out.old) (answer_for result) out.new }
 {
-    let mut kept = [DOCUMENT_NODE; SMALL.elements];
+    let mut kept = [UNREAD; SMALL.elements];
     let Under { graph, read: count } = files::document(gra, tre, &mut kept)?;
     shredder::write(&kept[..count], graph, out)
 }
@@ -22,7 +22,7 @@ pub fn shred(gra: &[u8], tre: &[u8], out: &mut [u8]) -> Result<u32, Refusal>
 pub fn rebuild(gra: &[u8], edg: &[u8], out: &mut [u8]) -> Result<u32, Refusal>
     ensures { Leaves (rebuilt gra.now edg.now out.old) (answer_for result) out.new }
 {
-    let mut kept = [DOCUMENT_NODE; SMALL.elements];
+    let mut kept = [UNREAD; SMALL.elements];
     let opened = files::tables(gra, edg, &mut kept)?;
     rebuilder::write(&kept[..opened.read], out)
 }

@@ -14,6 +14,14 @@ pub const DOCUMENT_NODE: Element = Element {
     text: 0,
 };
 
+// What a place holds before an element is read into it. Zeros are written at once, where any other value is written place by
+// place; no reader minds what stood there.
+pub const UNREAD: Element = Element {
+    parent: 0,
+    kind: 0,
+    text: 0,
+};
+
 // Node v of some elements.
 #[tactic(auto, unfolding(meaning::specs::Documents::node))]
 pub fn node_at(elements: &[Element], v: u8) -> Element

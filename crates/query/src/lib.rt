@@ -13,12 +13,13 @@ ghost use Rattle.query.specs.Inside.PartsRead.{part_left};
 use fields::{Cursor, Field};
 use meaning::{Reason, Refusal};
 
-// The nodes that a query may have.
-const LIMIT: u8 = 24;
+// The nodes that a query may have. How many are left is a usize, as the cursor beside it is: a byte there is copied in pieces,
+// and each reader would wait for them.
+const LIMIT: usize = 24;
 
 // The code of a node, if one more is allowed.
 #[tactic(auto, unfolding(crate::specs::Qry::node_code))]
-fn node_code(s: &[u8], c: Cursor, left: u8) -> Field<u8>
+fn node_code(s: &[u8], c: Cursor, left: usize) -> Field<u8>
     ensures value { read_of result ≡ node_code left s.now c.at }
     ensures some { OnOk result (1 ≤ left) }
 {
@@ -31,7 +32,7 @@ fn node_code(s: &[u8], c: Cursor, left: u8) -> Field<u8>
 // A path, where left nodes are allowed. The codes are the file's bytes, as the table in specs/Qry has them.
 #[cycle(path_qualifier)]
 #[tactic(auto, using(crate::proofs::Laws::part_step, crate::proofs::Laws::part_falls, crate::proofs::Laws::no_path))]
-fn path(s: &[u8], c: Cursor, left: u8, k: u8) -> Field<u8>
+fn path(s: &[u8], c: Cursor, left: usize, k: u8) -> Field<usize>
     ensures { read_of result ≡ part_left k path left s.now c.at }
 {
     let (code, after) = node_code(s, c, left)?;
@@ -56,7 +57,7 @@ fn path(s: &[u8], c: Cursor, left: u8, k: u8) -> Field<u8>
 
 #[cycle(path_qualifier)]
 #[tactic(auto, using(crate::proofs::Laws::part_step, crate::proofs::Laws::part_falls, crate::proofs::Laws::two_qualifiers, crate::proofs::Laws::no_qualifier))]
-fn qualifier(s: &[u8], c: Cursor, left: u8, k: u8) -> Field<u8>
+fn qualifier(s: &[u8], c: Cursor, left: usize, k: u8) -> Field<usize>
     ensures { read_of result ≡ part_left k qualifier left s.now c.at }
 {
     let (code, after) = node_code(s, c, left)?;
@@ -84,5 +85,5 @@ pub fn read(s: &[u8], k: u8) -> Result<u8, Refusal>
     let (_, body) = Cursor::start().header(s, b'Q', b'R', b'Y', 1)?;
     let (left, after) = path(s, body, LIMIT, k)?;
     after.end(s)?;
-    Ok(LIMIT - left)
+    Ok((LIMIT - left) as u8)
 }

@@ -17,7 +17,7 @@ use Rattle.rebuilder.specs.Inside.TokensFit.{closes_after, TokensFit}
 use Rattle.rebuilder.proofs.Closes.{less, up_next, closes_up}
 
 -- the closes from element n up to the parent of the element that follows a
-abbrev closes_from : List Element → ℕ → ℕ → List ℕ
+abbrev pub closes_from : List Element → ℕ → ℕ → List ℕ
 closes_from es a n = closes (length es) es n (node es (suc a)).parent
 
 -- Element n has been reached on the way up, and the closes from there on are still to come.

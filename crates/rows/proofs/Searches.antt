@@ -33,7 +33,7 @@ listed_still k (suc m) f l h =
     ∙ append-nil (listed m f) ∙ listed_still k m f (omega arith) (λ x a b. h x a (omega arith))
 
 -- some number below size passes where the first that does is below it
-some_below : {limit first : ℕ} {f : ℕ → Bool} (size : ℕ) → size ≤ limit → Next limit f 0 first → ltb first size ≡ any size f
+pub some_below : {limit first : ℕ} {f : ℕ → Bool} (size : ℕ) → size ≤ limit → Next limit f 0 first → ltb first size ≡ any size f
 unfolding any
 some_below {first = first} {f} size s n =
     by_order first size

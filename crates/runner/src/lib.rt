@@ -5,7 +5,7 @@ ghost use Rattle.writing.specs.Inside.Made.{answer_for};
 ghost use Rattle.rooms.specs.Run.{Gives};
 ghost use Rattle.runner.specs.Run.{run_of};
 
-use elements::DOCUMENT_NODE;
+use elements::UNREAD;
 use meaning::{Refusal, SMALL};
 
 // Reads a graph, tables and a program, and runs the program over the tables' elements.
@@ -18,7 +18,7 @@ pub fn run(
 ) -> Result<u32, Refusal>
     ensures { Gives (run_of gra.now edg.now rel.now out.old work.old) (answer_for result) out.new work.new }
 {
-    let mut kept = [DOCUMENT_NODE; SMALL.elements];
+    let mut kept = [UNREAD; SMALL.elements];
     let opened = files::tables_then_program(gra, edg, rel, &mut kept)?;
     rooms::run_over(&kept[..opened.count], &opened.program, out, work)
 }

@@ -69,7 +69,7 @@ module _ {w : Read Gathered} {t : ℕ} {s : List ℕ} {c : Gathered} {last count
     upto_refused h = row_turn ∙ simp (← h)
 
     module _ {row : Row} {after : ℕ} (h : got row after ≡ row_read element_limit t last s at) where
-      upto_good : GoodRow element_limit row
+      pub upto_good : GoodRow element_limit row
       unfolding row_read
       upto_good = (rule_out element_limit last row (judged_out (row_fields t) (row_rule element_limit last) Number s at (sym h)).1).0
 
@@ -95,7 +95,7 @@ added_total c (r ∷ rs) = added_total (put c r) rs ∙ omega arith
 
 -- a count that was read stands in the file, and so the stretch behind it
 module _ (total : ℕ) (s : List ℕ) (at : ℕ) {count after : ℕ} (h : got count after ≡ count_read element_limit total s at) where
-  counted_inside : after ≤ length s
+  pub counted_inside : after ≤ length s
   unfolding byte
   counted_inside =
       let (t, g) = pick_out (ltb at (length s)) (got (get_or s at 0) (at + 1)) (record { reason = Ended }) (judged_out byte _ Bound s at (sym h)).0 in
@@ -106,7 +106,7 @@ module _ (total : ℕ) (s : List ℕ) (at : ℕ) {count after : ℕ} (h : got co
     pub stretch_from : after ≤ e
     stretch_from = omega (arith, counted_inside)
 
-    stretch_to : e ≤ length s
+    pub stretch_to : e ≤ length s
     stretch_to = omega arith
 
 -- The loop over the types: w is what all tables come to, and c what is kept of those below kind.

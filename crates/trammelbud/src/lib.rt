@@ -16,7 +16,7 @@ mod list;
 mod plan;
 
 use announce::Checked;
-use elements::DOCUMENT_NODE;
+use elements::UNREAD;
 use meaning::{Answer, Refusal, SMALL};
 use writing::answer;
 
@@ -31,7 +31,7 @@ pub fn tb_read_graph(gra: &[u8]) -> Answer
 pub fn tb_read_document(gra: &[u8], tre: &[u8]) -> Answer
     ensures { result ≡ read_document gra.now tre.now }
 {
-    let mut kept = [DOCUMENT_NODE; SMALL.elements];
+    let mut kept = [UNREAD; SMALL.elements];
     answer(files::document(gra, tre, &mut kept).map(|opened| opened.read as u32))
 }
 
@@ -39,7 +39,7 @@ pub fn tb_read_document(gra: &[u8], tre: &[u8]) -> Answer
 pub fn tb_read_tables(gra: &[u8], edg: &[u8]) -> Answer
     ensures { result ≡ read_tables gra.now edg.now }
 {
-    let mut kept = [DOCUMENT_NODE; SMALL.elements];
+    let mut kept = [UNREAD; SMALL.elements];
     answer(files::tables(gra, edg, &mut kept).map(|opened| opened.read as u32))
 }
 
@@ -118,7 +118,7 @@ fn select(
 ) -> Result<u32, Refusal>
     ensures { Gives (select_of gra.now edg.now qry.now out.old work.old) (answer_for result) out.new work.new }
 {
-    let mut kept = [DOCUMENT_NODE; SMALL.elements];
+    let mut kept = [UNREAD; SMALL.elements];
     let plan = plan::make(gra, edg, qry, &mut kept)?;
     rooms::run_over(&kept[..plan.count], &plan.program, out, work)
 }
@@ -133,7 +133,7 @@ fn listed(
 ) -> Result<u32, Refusal>
     ensures { Gives (list_of gra.now edg.now qry.now text.old work.old) (answer_for result) text.new work.new }
 {
-    let mut kept = [DOCUMENT_NODE; SMALL.elements];
+    let mut kept = [UNREAD; SMALL.elements];
     let plan = plan::make(gra, edg, qry, &mut kept)?;
     list::list(&kept[..plan.count], &plan.program, text, work)
 }
